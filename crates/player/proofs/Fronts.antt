@@ -104,3 +104,32 @@ inserted before x xs n k part zs l e b is turned =
     ∙ sym (append-assoc (take k ys) (x ∷ bs) (drop (suc n) xs))
     ∙ ap (λ q. q ++ drop (suc n) xs) (sym placed-is)
     ∙ ap (λ m. placed before x ys ++ drop m xs) (sym count-is)
+
+-- what was written to the front, read back
+pub take-front : {X : Type 0} (ys xs : List X) (n : ℕ) → length ys ≡ n → take n (front ys xs) ≡ ys
+take-front ys xs n e = take-at ys (drop (length ys) xs) n e
+
+-- nothing written
+pub front-same : {X : Type 0} (xs : List X) (n : ℕ) → n ≤ length xs → xs ≡ front (take n xs) xs
+front-same xs n h = sym (ap (λ k. take n xs ++ drop k xs) (length-take-le n xs h) ∙ take-append-drop n xs)
+
+pub length-front : {X : Type 0} (ys xs : List X) → length ys ≤ length xs → length (front ys xs) ≡ length xs
+length-front ys xs h = omega (arith, length-append ys (drop (length ys) xs), length-drop (length ys) xs)
+
+-- all of the first n gone through
+pub record Removed {X : Type 0} (p : X → Bool) (xs ys : List X) (n left : ℕ) : Type 0 where
+  pub items : take left ys ≡ without p (take n xs)
+  pub slots : ys ≡ front (without p (take n xs)) xs
+  pub places : length ys ≡ length xs
+  pub len : left ≡ length (without p (take n xs))
+
+pub compacted-all : {X : Type 0} {p : X → Bool} {xs ys : List X} {left i : ℕ} → Compacted p xs ys left i → (n : ℕ) → i ≡ n → Removed p xs ys n left
+compacted-all {p = p} {xs = xs} {ys = ys} {left = left} {i = i} h n e =
+    let slots : ys ≡ front (without p (take n xs)) xs = h .slots ∙ ap (λ k. front (without p (take k xs)) xs) e in
+    let len : left ≡ length (without p (take n xs)) = h .count ∙ ap (λ k. length (without p (take k xs))) e in
+    record {
+      items = ap (take left) slots ∙ take-front (without p (take n xs)) xs left (sym len);
+      slots = slots;
+      places = h .long;
+      len = len;
+    }

@@ -8,7 +8,7 @@ use native.Mathlib.Omega.{arith}
 use lib.ListN.{length, getD, take, drop}
 use Rattle.std.proofs.shelf.Tests.{cond-both, cond-true, cond-false, and-parts, not-true, both-ways, cases-bool}
 use Rattle.std.proofs.shelf.Ways.{tells}
-use Rattle.std.proofs.shelf.Lists.{getD-take, length-take-le, length-take}
+use Rattle.std.proofs.shelf.Lists.{getD-take, length-take-le, length-take, take-more}
 use Rattle.player.specs.Tables.{none, any, sorted, tied, placed, leading, prefix}
 
 pub none-getD : {X : Type 0} (p : X → Bool) (xs : List X) (i : ℕ) (d : X) → none p xs ≡ true → i < length xs → p (getD xs i d) ≡ false
@@ -82,3 +82,19 @@ none-weaker p q [] f h = refl
 none-weaker p q (x ∷ xs) f h =
     let parts = and-parts (not (p x)) (none p xs) h in
     rw (f x (not-true (p x) (parts .0))) (none-weaker p q xs f (parts .1))
+
+pub none-push : {X : Type 0} (p : X → Bool) (xs : List X) (x : X) → none p xs ≡ true → p x ≡ false → none p (xs ++ (x ∷ [])) ≡ true
+none-push p [] x h e = rw e
+none-push p (y ∷ xs) x h e =
+    let parts = and-parts (not (p y)) (none p xs) h in
+    rw (not-true (p y) (parts .0)) (none-push p xs x (parts .1) e)
+
+-- one more element that fails
+pub none-more : {X : Type 0} (p : X → Bool) (xs : List X) (i : ℕ) (x : X) → i < length xs → x ≡ getD xs i x → none p (take i xs) ≡ true → p x ≡ false → none p (take (i + 1) xs) ≡ true
+none-more p xs i x l read h e =
+    let more : take (i + 1) xs ≡ take i xs ++ (x ∷ []) = take-more xs i x l ∙ ap (λ y. take i xs ++ (y ∷ [])) (sym read) in
+    rw more (none-push p (take i xs) x h e)
+
+pub any-taken : {X : Type 0} (p : X → Bool) (xs : List X) (n i : ℕ) (x : X) → n ≤ length xs → i < n → x ≡ getD xs i x → p x ≡ true → any p (take n xs) ≡ true
+any-taken p xs n i x w l read e =
+    any-at p (take n xs) i x (rw (length-take-le n xs w) l) (ap p (getD-take n xs i x l ∙ sym read) ∙ e)

@@ -1,2 +1,7 @@
+pub mod Draws
+pub mod Elements
+pub mod Follows
 pub mod Rows
+pub mod Sound
+pub mod State
 pub mod Tables

@@ -5,6 +5,6 @@ pub mod reads;
 // The slots, and how many of them are taken.
 #[derive(Drop)]
 pub struct Rows<'a, T> {
-    slots: &'a mut [T],
-    len: usize,
+    pub(crate) slots: &'a mut [T],
+    pub(crate) len: usize,
 }

@@ -17,7 +17,9 @@ impl<T: Ordered> Rows<'_, T> {
     pub(crate) fn insert(&mut self, x: T)
         requires room { ⌜ now self .len < length (now (now self .slots)) ⌝ }
         requires sorted { ⌜ sorted before (items (now self)) ≡ true ⌝ }
+        ensures items { λ _. ⌜ items (now (self .exit)) ≡ placed before x (items (now (self .entry))) ⌝ }
         ensures slots { λ _. ⌜ now (now (self .exit) .slots) ≡ front (placed before x (items (now (self .entry)))) (now (now (self .entry) .slots)) ⌝ }
+        ensures places { λ _. ⌜ length (now (now (self .exit) .slots)) ≡ length (now (now (self .entry) .slots)) ⌝ }
         ensures len { λ _. ⌜ now (self .exit) .len ≡ now (self .entry) .len + 1 ⌝ }
     {
         let count = self.ahead(&UpTo { value: x });
@@ -32,7 +34,9 @@ impl<T: Copy> Rows<'_, T> {
     // Removes what passes a test; the rest moves to the front, in its order.
     pub(crate) fn remove<P: Test<T>>(&mut self, test: &P)
         requires within { ⌜ now self .len ≤ length (now (now self .slots)) ⌝ }
+        ensures items { λ _. ⌜ items (now (self .exit)) ≡ without (passing (now (test .entry))) (items (now (self .entry))) ⌝ }
         ensures slots { λ _. ⌜ now (now (self .exit) .slots) ≡ front (without (passing (now (test .entry))) (items (now (self .entry)))) (now (now (self .entry) .slots)) ⌝ }
+        ensures places { λ _. ⌜ length (now (now (self .exit) .slots)) ≡ length (now (now (self .entry) .slots)) ⌝ }
         ensures len { λ _. ⌜ now (self .exit) .len ≡ length (without (passing (now (test .entry))) (items (now (self .entry)))) ⌝ }
     {
         let len = self.len;

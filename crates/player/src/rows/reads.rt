@@ -32,6 +32,20 @@ impl<T: Copy> Rows<'_, T> {
         }
         low
     }
+
+    // Whether an element passes a test.
+    pub(crate) fn has<P: Test<T>>(&self, test: &P) -> bool
+        requires { ⌜ now self .len ≤ length (now (now self .slots)) ⌝ }
+        ensures { λ r. ⌜ r ≡ any (passing (now (test .entry))) (items (now (self .entry))) ⌝ }
+    {
+        let slots = &*self.slots;
+        for i in 0..self.len {
+            if test.passes(slots[i]) {
+                return true;
+            }
+        }
+        false
+    }
 }
 
 impl<T: Ordered> Rows<'_, T> {
