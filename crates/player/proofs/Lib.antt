@@ -4,3 +4,6 @@ pub mod Fronts
 pub mod Soundness
 pub mod Drawing
 pub mod Sorting
+pub mod Telling
+pub mod Reaching
+pub mod Playing

@@ -1,5 +1,5 @@
 -- What a sound player's tables give.
-use Prim.Native.Nat.{ℕ, suc, _+_, _≤_, _<_}
+use Prim.Native.Nat.{ℕ, suc, _+_, _-_, _≤_, _<_}
 use mathlib.Core.Path.{_≡_, refl, sym, _∙_, ap}
 use mathlib.Core.Bool.{Bool, true, false, cond, not}
 use mathlib.Core.List.{List, [], _∷_}
@@ -13,18 +13,21 @@ use Rattle.std.proofs.shelf.Tests.{cases-bool}
 use mir.Val.{boolByte}
 use Rattle.player.specs.declared.elements.Kept.{Kept}
 use Rattle.player.specs.declared.elements.UsedId.{UsedId}
+use Rattle.player.specs.declared.players.Head.{Head}
 use Rattle.player.specs.declared.players.Player.{Player}
 use Rattle.player.specs.declared.rows.Rows.{Rows}
 use Rattle.player.specs.Draws.{marked, noIdPlace}
 use Rattle.player.specs.Elements.{earlier, hasId, idBefore}
+use Rattle.player.specs.Plays.{markedAll}
 use Rattle.player.specs.Rows.{items}
 use Rattle.player.specs.Sound.{Sound}
 use Rattle.player.specs.State.{Lent, ids, state}
-use Rattle.player.specs.Tables.{fails, placed, sorted}
+use Rattle.player.specs.Tables.{fails, placed, sorted, without}
 use Rattle.player.proofs.Drawing.{id-room, marked-sorted}
 use Rattle.player.proofs.Fronts.{front-same}
 use Rattle.player.proofs.InOrder.{length-placed}
 use Rattle.player.proofs.Sorting.{kept-placed-sorted}
+use Rattle.player.proofs.Telling.{ids-apart, markedAll-sorted, sorted-filtered}
 
 pub items-length : {X : Type 0} (r : Rows X) → r .len ≤ length (r .slots .now) → length (items r) ≡ r .len
 items-length r h = length-take-le (r .len) (r .slots .now) h
@@ -102,3 +105,36 @@ module _ (p : Player) (k : Kept) (r : Rows UsedId)
         (p .sound .1 .0, ap (sorted idBefore) marked-is ∙ marked-sorted k (items (p .used)) (p .sound .1 .1)),
         (p .sound .2 .0, omega arith),
       )
+
+-- some told: no longer kept, their ids used
+module _ (p : Player) (pick : Kept → Bool) where
+  pub tell-room : p .used .len + ids (kept-by pick (items (p .kept))) ≤ length (p .used .slots .now)
+  tell-room = omega (arith, ids-apart pick (items (p .kept)), p .sound .2 .0, p .sound .2 .1)
+
+  pub tell-fewer : ids (kept-by pick (items (p .kept))) ≤ p .head .«kept_ids»
+  tell-fewer = omega (arith, ids-apart pick (items (p .kept)), p .sound .2 .0)
+
+  module _ (h : Head) (k : Rows Kept) (u : Rows UsedId)
+      (kept-is : items k ≡ without pick (items (p .kept)))
+      (kept-len : k .len ≡ length (without pick (items (p .kept))))
+      (kept-places : length (k .slots .now) ≡ length (p .kept .slots .now))
+      (used-is : items u ≡ markedAll (kept-by pick (items (p .kept))) (items (p .used)))
+      (used-len : u .len ≡ p .used .len + ids (kept-by pick (items (p .kept))))
+      (used-places : length (u .slots .now) ≡ length (p .used .slots .now))
+      (counts : h .«kept_ids» ≡ p .head .«kept_ids» - (u .len - p .used .len)) where
+    pub tell-sound : Sound h k u
+    tell-sound =
+        let apart = ids-apart pick (items (p .kept)) in
+        let was = p .sound .2 .0 in
+        let fits = p .sound .2 .1 in
+        let fewer = length-kept-by-both pick (fails pick) (λ _. refl) (items (p .kept)) in
+        let len = items-length (p .kept) (p .sound .0 .0) in
+        let within = p .sound .0 .0 in
+        let left = ap ids kept-is in (
+          (omega arith, omega arith),
+          (
+            ap (sorted earlier) kept-is ∙ sorted-filtered earlier (fails pick) (items (p .kept)) (p .sound .1 .0),
+            ap (sorted idBefore) used-is ∙ markedAll-sorted (kept-by pick (items (p .kept))) (items (p .used)) (p .sound .1 .1),
+          ),
+          (omega arith, omega arith),
+        )

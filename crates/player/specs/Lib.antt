@@ -1,6 +1,7 @@
 pub mod Draws
 pub mod Elements
 pub mod Follows
+pub mod Plays
 pub mod Rows
 pub mod Sound
 pub mod State

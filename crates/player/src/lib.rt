@@ -1,6 +1,7 @@
 // The player: kept events and used ids in ordered tables, and the calls that play them.
 pub mod elements;
 pub mod orders;
+pub mod picks;
 pub mod players;
 pub mod rows;
 

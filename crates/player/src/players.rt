@@ -12,6 +12,7 @@ use event::times::TimePartialEq;
 pub mod drawing;
 pub mod following;
 pub mod making;
+pub mod playing;
 
 // The two tables that a player borrows, of sizes that it takes.
 #[derive(Drop)]
