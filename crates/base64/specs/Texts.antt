@@ -1,0 +1,55 @@
+-- Which texts are base64, and the bytes that they stand for.
+--   known      whether a character is of the alphabet
+--   full       whether four characters are
+--   padded     whether four characters may end a text: padding behind two or three of the alphabet, whose unused bits are 0
+--   accepted   whether a text is fours of the alphabet, behind which a padded four may stand
+--   joined     the 24 bits of four numbers of 6 bits
+--   bytes      the three bytes of 24 bits
+--   group      the bytes of four characters: one before two of padding, two before one, else three
+--   decoded    the bytes of a text, four characters after four
+use Prim.Native.Nat.{ℕ, _+_, _*_, _/_, _%_}
+use mathlib.Core.Bool.{Bool, true, false, cond, _&&_, _||_}
+use mathlib.Core.List.{List, [], _∷_, _++_}
+use lib.Dec.{eqb, ltb}
+use lib.ListN.{take}
+use Rattle.base64.specs.Alphabet.{padding, value}
+
+abbrev pub known : ℕ → Bool
+known c = ltb (value c) 64
+
+abbrev pub full : ℕ → ℕ → ℕ → ℕ → Bool
+full a b c d = known a && known b && known c && known d
+
+abbrev pub padded : ℕ → ℕ → ℕ → ℕ → Bool
+padded a b c d =
+    known a && known b && eqb d padding && cond (eqb c padding) (eqb (value b % 16) 0) (known c && eqb (value c % 4) 0)
+
+abbrev pub none : List ℕ → Bool
+none [] = true
+none (x ∷ xs) = false
+
+abbrev pub accepted : List ℕ → Bool
+accepted [] = true
+accepted (a ∷ []) = false
+accepted (a ∷ b ∷ []) = false
+accepted (a ∷ b ∷ c ∷ []) = false
+accepted (a ∷ b ∷ c ∷ d ∷ rest) = full a b c d && accepted rest || padded a b c d && none rest
+
+abbrev pub joined : ℕ → ℕ → ℕ → ℕ → ℕ
+joined a b c d = ((a * 64 + b) * 64 + c) * 64 + d
+
+abbrev pub bytes : ℕ → List ℕ
+bytes n = n / 65536 ∷ n / 256 % 256 ∷ n % 256 ∷ []
+
+abbrev pub group : ℕ → ℕ → ℕ → ℕ → List ℕ
+group a b c d =
+    cond (eqb c padding) (take 1 (bytes (joined (value a) (value b) 0 0)))
+    (cond (eqb d padding) (take 2 (bytes (joined (value a) (value b) (value c) 0)))
+    (bytes (joined (value a) (value b) (value c) (value d))))
+
+abbrev pub decoded : List ℕ → List ℕ
+decoded [] = []
+decoded (a ∷ []) = []
+decoded (a ∷ b ∷ []) = []
+decoded (a ∷ b ∷ c ∷ []) = []
+decoded (a ∷ b ∷ c ∷ d ∷ rest) = group a b c d ++ decoded rest
