@@ -1,14 +1,14 @@
 -- A text, four characters after four.
-use Prim.Native.Nat.{ℕ, _-_, _≤_}
+use Prim.Native.Nat.{ℕ, _-_, _≤_, _<_}
 use mathlib.Core.Bool.{Bool, true, false}
-use mathlib.Core.List.{List, [], _∷_}
+use mathlib.Core.List.{List, [], _∷_, _++_}
 use mathlib.Core.Path.{_≡_, refl, sym, ap, _∙_}
 use native.Mathlib.Omega.{arith}
 use lib.Dec.{eqb}
 use lib.ListN.{length, getD, take, drop}
 use Rattle.std.proofs.shelf.Lists.{take-all}
 use Rattle.std.proofs.shelf.Tests.{false≢true}
-use Rattle.base64.specs.Texts.{accepted, full, padded, none}
+use Rattle.base64.specs.Texts.{accepted, decoded, full, group}
 
 -- the four characters in front
 abbrev pub full-front : List ℕ → Bool
@@ -42,3 +42,20 @@ stops (a ∷ []) h f e = absurd (omega arith)
 stops (a ∷ b ∷ []) h f e = absurd (omega arith)
 stops (a ∷ b ∷ c ∷ []) h f e = absurd (omega arith)
 stops (a ∷ b ∷ c ∷ d ∷ rest) h f e = stops-at a b c d rest f (rw behind-is at e)
+
+abbrev pub group-front : List ℕ → List ℕ
+group-front xs = group (getD xs 0 0) (getD xs 1 0) (getD xs 2 0) (getD xs 3 0)
+
+pub decoded-on : (xs : List ℕ) → 4 ≤ length xs → decoded xs ≡ group-front xs ++ decoded (behind xs)
+decoded-on [] h = absurd (omega arith)
+decoded-on (a ∷ []) h = absurd (omega arith)
+decoded-on (a ∷ b ∷ []) h = absurd (omega arith)
+decoded-on (a ∷ b ∷ c ∷ []) h = absurd (omega arith)
+decoded-on (a ∷ b ∷ c ∷ d ∷ rest) h = ap (λ l. group a b c d ++ decoded l) (sym (behind-is a b c d rest))
+
+pub decoded-end : (xs : List ℕ) → length xs < 4 → decoded xs ≡ []
+decoded-end [] h = refl
+decoded-end (a ∷ []) h = refl
+decoded-end (a ∷ b ∷ []) h = refl
+decoded-end (a ∷ b ∷ c ∷ []) h = refl
+decoded-end (a ∷ b ∷ c ∷ d ∷ rest) h = absurd (omega arith)

@@ -1,1 +1,3 @@
 pub mod Fours
+pub mod Filling
+pub mod Sizes

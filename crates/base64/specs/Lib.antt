@@ -1,2 +1,3 @@
 pub mod Alphabet
+pub mod Calls
 pub mod Texts

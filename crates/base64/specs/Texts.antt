@@ -5,7 +5,7 @@
 --   accepted   whether a text is fours of the alphabet, behind which a padded four may stand
 --   joined     the 24 bits of four numbers of 6 bits
 --   bytes      the three bytes of 24 bits
---   group      the bytes of four characters: one before two of padding, two before one, else three
+--   group      the bytes of four characters: three, or two where one is padding, or one where two are
 --   decoded    the bytes of a text, four characters after four
 use Prim.Native.Nat.{ℕ, _+_, _*_, _/_, _%_}
 use mathlib.Core.Bool.{Bool, true, false, cond, _&&_, _||_}
@@ -39,13 +39,13 @@ abbrev pub joined : ℕ → ℕ → ℕ → ℕ → ℕ
 joined a b c d = ((a * 64 + b) * 64 + c) * 64 + d
 
 abbrev pub bytes : ℕ → List ℕ
-bytes n = n / 65536 ∷ n / 256 % 256 ∷ n % 256 ∷ []
+bytes n = n / 65536 % 256 ∷ n / 256 % 256 ∷ n % 256 ∷ []
 
 abbrev pub group : ℕ → ℕ → ℕ → ℕ → List ℕ
 group a b c d =
-    cond (eqb c padding) (take 1 (bytes (joined (value a) (value b) 0 0)))
-    (cond (eqb d padding) (take 2 (bytes (joined (value a) (value b) (value c) 0)))
-    (bytes (joined (value a) (value b) (value c) (value d))))
+    cond (eqb d padding)
+    (cond (eqb c padding) (take 1 (bytes (joined (value a) (value b) 0 0))) (take 2 (bytes (joined (value a) (value b) (value c) 0))))
+    (bytes (joined (value a) (value b) (value c) (value d)))
 
 abbrev pub decoded : List ℕ → List ℕ
 decoded [] = []
