@@ -1,4 +1,4 @@
--- A text, four characters after four.
+-- A text, four characters after four, and bytes, three after three.
 use Prim.Native.Nat.{ℕ, _-_, _≤_, _<_}
 use mathlib.Core.Bool.{Bool, true, false}
 use mathlib.Core.List.{List, [], _∷_, _++_}
@@ -8,7 +8,7 @@ use lib.Dec.{eqb}
 use lib.ListN.{length, getD, take, drop}
 use Rattle.std.proofs.shelf.Lists.{take-all}
 use Rattle.std.proofs.shelf.Tests.{false≢true}
-use Rattle.base64.specs.Texts.{accepted, decoded, full, group}
+use Rattle.base64.specs.Texts.{accepted, decoded, encoded, digits, full, group, packed}
 
 -- the four characters in front
 abbrev pub full-front : List ℕ → Bool
@@ -59,3 +59,13 @@ decoded-end (a ∷ []) h = refl
 decoded-end (a ∷ b ∷ []) h = refl
 decoded-end (a ∷ b ∷ c ∷ []) h = refl
 decoded-end (a ∷ b ∷ c ∷ d ∷ rest) h = absurd (omega arith)
+
+-- the three bytes in front
+abbrev pub digits-front : List ℕ → List ℕ
+digits-front xs = digits (packed (getD xs 0 0) (getD xs 1 0) (getD xs 2 0))
+
+pub encoded-on : (xs : List ℕ) → 3 ≤ length xs → encoded xs ≡ digits-front xs ++ encoded (take (length xs - 3) (drop 3 xs))
+encoded-on [] h = absurd (omega arith)
+encoded-on (a ∷ []) h = absurd (omega arith)
+encoded-on (a ∷ b ∷ []) h = absurd (omega arith)
+encoded-on (a ∷ b ∷ c ∷ rest) h = ap (λ l. digits (packed a b c) ++ encoded l) (sym (take-all _ rest (omega arith)))

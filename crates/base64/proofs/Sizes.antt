@@ -1,4 +1,4 @@
--- How many bytes a text stands for.
+-- How many bytes a text stands for, and how many characters bytes take.
 use Prim.Native.Nat.{ℕ, suc, _+_, _-_, _*_, _/_, _<_}
 use mathlib.Core.Bool.{Bool, true, false, cond}
 use mathlib.Core.List.{List, [], _∷_, append-nil}
@@ -10,7 +10,7 @@ use lib.ListN.{length, getD}
 use Rattle.std.proofs.shelf.Lists.{length-append}
 use Rattle.std.proofs.shelf.Tests.{cases-bool, eqb-true, false≢true}
 use Rattle.base64.specs.Alphabet.{alphabet, padding, place, value}
-use Rattle.base64.specs.Texts.{accepted, decoded, full, group, known}
+use Rattle.base64.specs.Texts.{accepted, decoded, digits, encoded, full, group, known, packed}
 
 -- how many characters of padding end a text
 abbrev pub pads : List ℕ → ℕ
@@ -57,3 +57,11 @@ sized (a ∷ b ∷ c ∷ d ∷ e ∷ f ∷ rest) h =
     let on : full a b c d ≡ true = grind (arith) in
     let ih = sized (e ∷ f ∷ rest) (grind (arith)) in
     omega (arith, ih, further a b c d e f rest, three a b c d on, length-append (group a b c d) (decoded (e ∷ f ∷ rest)))
+
+pub encoded-sized : (xs : List ℕ) → length (encoded xs) ≡ (length xs + 2) / 3 * 4
+encoded-sized [] = refl
+encoded-sized (a ∷ []) = refl
+encoded-sized (a ∷ b ∷ []) = refl
+encoded-sized (a ∷ b ∷ c ∷ rest) =
+    let ih = encoded-sized rest in
+    omega (arith, ih, length-append (digits (packed a b c)) (encoded rest))

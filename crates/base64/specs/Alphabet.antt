@@ -18,7 +18,7 @@ abbrev pub padding : ℕ
 padding = 61
 
 abbrev pub digit : ℕ → ℕ
-digit n = getD alphabet n padding
+digit n = getD alphabet n 0
 
 unfoldable pub place : ℕ → List ℕ → ℕ
 place c [] = 0

@@ -7,12 +7,15 @@
 --   bytes      the three bytes of 24 bits
 --   group      the bytes of four characters: three, or two where one is padding, or one where two are
 --   decoded    the bytes of a text, four characters after four
+--   packed     the 24 bits of three bytes
+--   digits     the four characters of 24 bits
+--   encoded    the text of a list of bytes, three after three; bits of 0 fill up the last three, and padding the last four
 use Prim.Native.Nat.{ℕ, _+_, _*_, _/_, _%_}
 use mathlib.Core.Bool.{Bool, true, false, cond, _&&_, _||_}
 use mathlib.Core.List.{List, [], _∷_, _++_}
 use lib.Dec.{eqb, ltb}
 use lib.ListN.{take}
-use Rattle.base64.specs.Alphabet.{padding, value}
+use Rattle.base64.specs.Alphabet.{digit, padding, value}
 
 abbrev pub known : ℕ → Bool
 known c = ltb (value c) 64
@@ -53,3 +56,15 @@ decoded (a ∷ []) = []
 decoded (a ∷ b ∷ []) = []
 decoded (a ∷ b ∷ c ∷ []) = []
 decoded (a ∷ b ∷ c ∷ d ∷ rest) = group a b c d ++ decoded rest
+
+abbrev pub packed : ℕ → ℕ → ℕ → ℕ
+packed a b c = (a * 256 + b) * 256 + c
+
+abbrev pub digits : ℕ → List ℕ
+digits n = digit (n / 262144 % 64) ∷ digit (n / 4096 % 64) ∷ digit (n / 64 % 64) ∷ digit (n % 64) ∷ []
+
+abbrev pub encoded : List ℕ → List ℕ
+encoded [] = []
+encoded (a ∷ []) = take 2 (digits (packed a 0 0)) ++ padding ∷ padding ∷ []
+encoded (a ∷ b ∷ []) = take 3 (digits (packed a b 0)) ++ padding ∷ []
+encoded (a ∷ b ∷ c ∷ rest) = digits (packed a b c) ++ encoded rest

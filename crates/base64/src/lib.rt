@@ -1,14 +1,14 @@
 // Base64 of RFC 4648, section 4: padding required, no other character, unused bits 0.
-ghost use Prim.Native.Nat.{ℕ, _+_, _*_, _≤_, _<_};
+ghost use Prim.Native.Nat.{_%_, _≤_, _<_};
 ghost use mathlib.Core.Bool.{true};
 ghost use mathlib.Core.List.{[], _∷_};
 ghost use mathlib.Core.Path.{_≡_};
 ghost use lib.ListN.{length};
 ghost use Rattle.event.specs.Fronts.{front};
 ghost use Rattle.event.specs.Numbers.{answer};
-ghost use Rattle.base64.specs.Alphabet.{value};
-ghost use Rattle.base64.specs.Calls.{decodes};
-ghost use Rattle.base64.specs.Texts.{accepted, bytes, decoded, full, group, joined, padded};
+ghost use Rattle.base64.specs.Alphabet.{digit, padding, value};
+ghost use Rattle.base64.specs.Calls.{decodes, encodes};
+ghost use Rattle.base64.specs.Texts.{accepted, bytes, decoded, digits, encoded, full, group, joined, packed, padded};
 use event::Defect;
 use event::Refusal;
 
@@ -31,6 +31,9 @@ const VALUES: &[u8; 256] = b"\
     @@@@@@@@@@@@@@@@\
     @@@@@@@@@@@@@@@@\
 ";
+
+// The alphabet, in order.
+const ALPHABET: &[u8; 64] = b"ABCDEFGHIJKLMNOPQRSTUVWXYZabcdefghijklmnopqrstuvwxyz0123456789+/";
 
 // The value of a character.
 fn value(c: u8) -> u8
@@ -146,4 +149,73 @@ pub fn decode(text: &[u8], out: &mut [u8]) -> Result<usize, Refusal>
     }
     unpack(text, out);
     Ok(count)
+}
+
+// The character that stands for the low six bits of a number.
+fn digit(n: u32) -> u8
+    ensures { λ r. ⌜ r ≡ digit (n % 64) ⌝ }
+{
+    ALPHABET[(n % 64) as usize]
+}
+
+// The four characters of three bytes.
+fn four(a: u8, b: u8, c: u8) -> [u8; 4]
+    ensures { λ r. ⌜ r ≡ digits (packed a b c) ⌝ }
+{
+    let n = u32::from_be_bytes([0, a, b, c]);
+    [digit(n >> 18), digit(n >> 12), digit(n >> 6), digit(n)]
+}
+
+// Writes four characters to the front of `out`.
+fn put(text: [u8; 4], out: &mut [u8])
+    requires { ⌜ 4 ≤ length (now out) ⌝ }
+    ensures { λ _. ⌜ now (out .exit) ≡ front text (now (out .entry)) ⌝ }
+{
+    out[0..4].copy_from_slice(&text);
+}
+
+// Writes the text of fewer than three bytes to the front of `out`.
+fn pack_last(rest: &[u8], out: &mut [u8])
+    requires { ⌜ length (now rest) < 3 ⌝ }
+    requires { ⌜ length (encoded (now rest)) ≤ length (now out) ⌝ }
+    ensures { λ _. ⌜ now (out .exit) ≡ front (encoded (now (rest .entry))) (now (out .entry)) ⌝ }
+{
+    match rest {
+        [a] => {
+            let [w, x, _, _] = four(*a, 0, 0);
+            put([w, x, b'=', b'='], out);
+        }
+        [a, b] => {
+            let [w, x, y, _] = four(*a, *b, 0);
+            put([w, x, y, b'='], out);
+        }
+        _ => {}
+    }
+}
+
+// Writes the text of some bytes to the front of `out`.
+fn pack(bytes: &[u8], out: &mut [u8])
+    requires { ⌜ length (encoded (now bytes)) ≤ length (now out) ⌝ }
+    ensures { λ _. ⌜ now (out .exit) ≡ front (encoded (now (bytes .entry))) (now (out .entry)) ⌝ }
+{
+    let mut rest = bytes;
+    let mut at = 0;
+    while let [a, b, c, more @ ..] = rest {
+        put(four(*a, *b, *c), &mut out[at..]);
+        at += 4;
+        rest = more;
+    }
+    pack_last(rest, &mut out[at..]);
+}
+
+// Writes the text of some bytes to the front of `out`, and answers its length.
+pub fn encode(bytes: &[u8], out: &mut [u8]) -> Result<usize, Refusal>
+    ensures { λ r. ⌜ (answer r, now (out .exit)) ≡ encodes (now (bytes .entry)) (now (out .entry)) ⌝ }
+{
+    let groups = bytes.len().div_ceil(3);
+    if out.len() / 4 < groups {
+        return Err(Refusal::BufferShort);
+    }
+    pack(bytes, out);
+    Ok(groups * 4)
 }
