@@ -21,7 +21,7 @@ behind xs = take (length xs - 4) (drop 4 xs)
 behind-is : (a b c d : ℕ) (rest : List ℕ) → behind (a ∷ b ∷ c ∷ d ∷ rest) ≡ rest
 behind-is a b c d rest = take-all _ rest (omega arith)
 
-goes-on : (a b c d : ℕ) (rest : List ℕ) → full a b c d ≡ true → accepted rest ≡ accepted (a ∷ b ∷ c ∷ d ∷ rest)
+pub goes-on : (a b c d : ℕ) (rest : List ℕ) → full a b c d ≡ true → accepted rest ≡ accepted (a ∷ b ∷ c ∷ d ∷ rest)
 goes-on a b c d [] f = grind (arith)
 goes-on a b c d (x ∷ rest) f = grind (arith)
 

@@ -2,39 +2,27 @@
 use Prim.Native.Nat.{ℕ, suc, _+_, _-_, _*_, _/_, _<_}
 use mathlib.Core.Bool.{Bool, true, false, cond}
 use mathlib.Core.List.{List, [], _∷_, append-nil}
-use mathlib.Core.Logic.{⊎-elim}
 use mathlib.Core.Path.{_≡_, refl, sym, ap, _∙_}
 use native.Mathlib.Omega.{arith}
 use lib.Dec.{eqb}
 use lib.ListN.{length, getD}
 use Rattle.std.proofs.shelf.Lists.{length-append}
-use Rattle.std.proofs.shelf.Tests.{cases-bool, eqb-true, false≢true}
-use Rattle.base64.specs.Alphabet.{alphabet, padding, place, value}
-use Rattle.base64.specs.Texts.{accepted, decoded, digits, encoded, full, group, known, packed}
+use Rattle.std.proofs.shelf.Tests.{cond-false, false≢true}
+use Rattle.base64.specs.Alphabet.{padding}
+use Rattle.base64.specs.Texts.{accepted, decoded, digits, encoded, full, group, packed}
+use Rattle.base64.proofs.Digits.{unpadded}
 
 -- how many characters of padding end a text
 abbrev pub pads : List ℕ → ℕ
 pads xs = cond (eqb (getD xs (length xs - 1) 0) padding) (cond (eqb (getD xs (length xs - 2) 0) padding) 2 1) 0
-
-padding-unknown : known padding ≡ false
-unfolding value place alphabet
-padding-unknown = refl
-
-pub unpadded : (c : ℕ) → known c ≡ true → eqb c padding ≡ false
-unpadded c k =
-    ⊎-elim (λ e. absurd (false≢true (sym padding-unknown ∙ ap known (sym (eqb-true c padding e)) ∙ k))) (λ e. e) (cases-bool (eqb c padding))
 
 sized-by : (x y : Bool) (l m n : List ℕ) → length l ≡ 1 → length m ≡ 2 → length n ≡ 3 → length (cond x (cond y l m) n) + cond x (cond y 2 1) 0 ≡ 3
 sized-by true true l m n p q r = omega arith
 sized-by true false l m n p q r = omega arith
 sized-by false y l m n p q r = omega arith
 
-three-by : (x y : Bool) (l m n : List ℕ) → x ≡ false → length n ≡ 3 → length (cond x (cond y l m) n) ≡ 3
-three-by true y l m n p r = absurd (false≢true (sym p))
-three-by false y l m n p r = r
-
 three : (a b c d : ℕ) → full a b c d ≡ true → length (group a b c d) ≡ 3
-three a b c d f = three-by (eqb d padding) (eqb c padding) _ _ _ (unpadded d (grind (arith))) refl
+three a b c d f = ap length (cond-false _ _ _ (unpadded d (grind (arith))))
 
 last : (n : ℕ) → suc (suc (suc (suc (suc (suc n))))) - 1 ≡ suc (suc (suc (suc (suc (suc n) - 1))))
 last n = omega arith

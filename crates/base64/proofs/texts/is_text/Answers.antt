@@ -1,7 +1,7 @@
 use borrow.Author.Needs.{needs}
 use mathlib.Core.Path.{_∙_, sym}
 use Rattle.base64.proofs.Fours.{on, stops}
-use Rattle.base64.proofs.is_text.Needs as need
+use Rattle.base64.proofs.texts.is_text.Needs as need
 
 pub returns-else-is-empty : need.returns-else-is-empty
 returns-else-is-empty c =

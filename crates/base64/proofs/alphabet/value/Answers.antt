@@ -2,7 +2,7 @@ use native.Mathlib.Omega.{arith}
 use borrow.Author.Needs.{needs}
 use Rattle.std.proofs.shelf.Counted.{getD-map-counting}
 use Rattle.base64.specs.Alphabet.{alphabet, place, value}
-use Rattle.base64.proofs.value.Needs as need
+use Rattle.base64.proofs.alphabet.value.Needs as need
 
 -- the table is the list of the values of 0 to 255
 pub returns : need.returns

@@ -1,7 +1,7 @@
 use borrow.Author.Needs.{needs}
 use Rattle.base64.proofs.Filling.{start, room, next, done}
 use Rattle.base64.proofs.Fours.{decoded-on, decoded-end}
-use Rattle.base64.proofs.unpack.Needs as need
+use Rattle.base64.proofs.decoding.unpack.Needs as need
 
 pub loop-rest-holds : need.loop-rest-holds
 loop-rest-holds c = start _ _

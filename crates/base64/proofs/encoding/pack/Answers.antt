@@ -4,7 +4,7 @@ use borrow.Author.Needs.{needs}
 use Rattle.event.specs.Fronts.{front}
 use Rattle.base64.proofs.Filling.{start, left, room, next, done}
 use Rattle.base64.proofs.Fours.{digits-front, encoded-on}
-use Rattle.base64.proofs.pack.Needs as need
+use Rattle.base64.proofs.encoding.pack.Needs as need
 
 pub loop-rest-holds : need.loop-rest-holds
 loop-rest-holds c = start _ _

@@ -1,7 +1,7 @@
 use mathlib.Core.Path.{_≡_}
 use lib.ListN.{length}
 use Rattle.base64.specs.Texts.{accepted}
-use Rattle.base64.proofs.is_text.Given as given
+use Rattle.base64.proofs.texts.is_text.Given as given
 
 abbrev pub Inv-loop-rest : given.InvT-loop-rest
 Inv-loop-rest l = accepted (l .rest) ≡ accepted (l .text)
