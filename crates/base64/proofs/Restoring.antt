@@ -12,7 +12,7 @@ use Rattle.std.proofs.shelf.Tests.{and-parts, cases-bool, cond-both, cond-false
 use Rattle.std.specs.shelf.Lists.{All}
 use Rattle.base64.specs.Alphabet.{digit, padding, value}
 use Rattle.base64.specs.Laws.{Byte, Exact, Restored}
-use Rattle.base64.specs.Texts.{accepted, bytes, decoded, digits, encoded, full, group, joined, known, none, packed, padded}
+use Rattle.base64.specs.Texts.{accepted, octets, decoded, digits, encoded, full, group, joined, known, none, packed, padded}
 use Rattle.base64.proofs.Bits.{joined-below, packed-bytes, first-digit, second-digit, third-digit, fourth-digit}
 use Rattle.base64.proofs.Digits.{digit-value, unpadded}
 use Rattle.base64.proofs.Undoing.{undone}
@@ -46,7 +46,7 @@ restored-full : (a b c d : ℕ) (bs rest : List ℕ) → full a b c d ≡ true �
 restored-full a b c d bs rest f e =
     let n : ℕ = joined (value a) (value b) (value c) (value d) in
     let kd : known d ≡ true = grind (arith) in
-    let three : group a b c d ≡ bytes n = cond-false _ _ _ (unpadded d kd) in
+    let three : group a b c d ≡ octets n = cond-false _ _ _ (unpadded d kd) in
     let small : n < 16777216 = omega (arith, below a (grind (arith)), below b (grind (arith)), below c (grind (arith)), below d kd) in
     ap (λ l. encoded (l ++ bs)) three
     ∙ (λ i. (ap digits (packed-bytes n small) ∙ digits-joined a b c d f) i ++ e i)
@@ -107,13 +107,13 @@ restored (a ∷ b ∷ c ∷ d ∷ e ∷ rest) h =
     restored-full a b c d (decoded (e ∷ rest)) (e ∷ rest) f (restored (e ∷ rest) on)
 
 -- what is decoded is bytes
-eight : (n : ℕ) → All Byte (bytes n)
+eight : (n : ℕ) → All Byte (octets n)
 eight n = (omega arith, (omega arith, (omega arith, tt)))
 
 group-eight : (a b c d : ℕ) → All Byte (group a b c d)
 group-eight a b c d =
     cond-both (eqb d padding) _ _ (All Byte)
-    (λ _. cond-both (eqb c padding) _ _ (All Byte) (λ _. all-take Byte 1 (bytes (joined (value a) (value b) 0 0)) (eight _)) (λ _. all-take Byte 2 (bytes (joined (value a) (value b) (value c) 0)) (eight _)))
+    (λ _. cond-both (eqb c padding) _ _ (All Byte) (λ _. all-take Byte 1 (octets (joined (value a) (value b) 0 0)) (eight _)) (λ _. all-take Byte 2 (octets (joined (value a) (value b) (value c) 0)) (eight _)))
     (λ _. eight (joined (value a) (value b) (value c) (value d)))
 
 pub decoded-bytes : (t : List ℕ) → All Byte (decoded t)

@@ -10,7 +10,7 @@ use Rattle.std.proofs.shelf.Tests.{cond-false, eq-eqb, lt-ltb}
 use Rattle.std.specs.shelf.Lists.{All}
 use Rattle.base64.specs.Alphabet.{digit, padding, value}
 use Rattle.base64.specs.Laws.{Byte, Undone}
-use Rattle.base64.specs.Texts.{accepted, bytes, decoded, digits, encoded, full, group, joined, known, packed, padded}
+use Rattle.base64.specs.Texts.{accepted, octets, decoded, digits, encoded, full, group, joined, known, packed, padded}
 use Rattle.base64.proofs.Bits.{joined-digits, packed-below, first-byte, second-byte, third-byte}
 use Rattle.base64.proofs.Digits.{value-digit, unpadded}
 use Rattle.base64.proofs.Fours.{goes-on}
@@ -35,12 +35,12 @@ module _ (n : ℕ) where
   full-digits : full (digit w) (digit x) (digit y) (digit z) ≡ true
   full-digits = rw (known-digit w (omega arith), known-digit x (omega arith), known-digit y (omega arith), known-digit z (omega arith))
 
-  group-digits : n < 16777216 → group (digit w) (digit x) (digit y) (digit z) ≡ bytes n
+  group-digits : n < 16777216 → group (digit w) (digit x) (digit y) (digit z) ≡ octets n
   group-digits h =
       cond-false _ _ _ (unpadded (digit z) (known-digit z (omega arith)))
       ∙ rw (value-digit w (omega arith), value-digit x (omega arith), value-digit y (omega arith), value-digit z (omega arith), joined-digits n h)
 
-bytes-packed : (a b c : ℕ) → a < 256 → b < 256 → c < 256 → bytes (packed a b c) ≡ a ∷ b ∷ c ∷ []
+bytes-packed : (a b c : ℕ) → a < 256 → b < 256 → c < 256 → octets (packed a b c) ≡ a ∷ b ∷ c ∷ []
 bytes-packed a b c ha hb hc = rw (first-byte a b c ha hb hc, second-byte a b c ha hb hc, third-byte a b c ha hb hc)
 
 closed : (a b c d : ℕ) → padded a b c d ≡ true → accepted (a ∷ b ∷ c ∷ d ∷ []) ≡ true
