@@ -5,6 +5,7 @@
 --   fitting p es   the events up to the first that does not fit
 --   stop p es g    the fault of the first event that does not fit, or the ending g where all fit
 --   inPeriod p c   what is to come, each record moved, up to the first that does not fit
+--   without p es c the rest of c where the first of es fits, else c
 --   removes p c    what a step of the period leaves of the feed below: where the first record does not fit, all of it
 use Prim.Native.Nat.{ℕ, _+_}
 use mathlib.Core.Bool.{Bool, cond, _&&_}
