@@ -1,1 +1,3 @@
+pub mod Catalogues
+pub mod Pairs
 pub mod Stretches

@@ -2,6 +2,7 @@
 --   Extent           the bytes of the buffer, and the places where a stretch of it begins and ends
 --   extent s         what a stretch says
 --   part s           the bytes of a stretch
+--   left s at        the bytes of a stretch from a place on
 --   stretch m a b    the stretch of m from a to b, or 5 where m is too long or the stretch is not inside it
 --   made r           what the making of a stretch answers
 use Prim.Native.Nat.{ℕ}
@@ -27,6 +28,9 @@ extent s = record { media = s .media .now; from = s .from; to = s .to }
 
 abbrev pub part : Stretch → List ℕ
 part s = between (s .from) (s .to) (s .media .now)
+
+abbrev pub left : Stretch → ℕ → List ℕ
+left s at = between at (s .to) (s .media .now)
 
 abbrev pub stretch : List ℕ → ℕ → ℕ → Answer Extent
 stretch m a b =

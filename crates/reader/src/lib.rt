@@ -1,4 +1,7 @@
 // Readers: from bytes of the media buffer to the catalogue of streams and to the records of a feed.
+pub mod catalogues;
+pub(crate) mod pairs;
 pub mod stretches;
 
+pub use catalogues::Catalogue;
 pub use stretches::Stretch;

@@ -1,15 +1,15 @@
 // A stretch of the media buffer, which a reader is made over.
 ghost use mathlib.Core.Path.{_≡_};
 ghost use Rattle.std.specs.shelf.Lists.{between};
-ghost use Rattle.reader.specs.Stretches.{made, part, stretch};
+ghost use Rattle.reader.specs.Stretches.{left, made, part, stretch};
 use event::Refusal;
 
 // The media buffer, and the places in it where the stretch begins and ends.
 #[derive(Clone, Copy)]
 pub struct Stretch<'a> {
-    media: &'a [u8],
-    from: u32,
-    to: u32,
+    pub(crate) media: &'a [u8],
+    pub(crate) from: u32,
+    pub(crate) to: u32,
 }
 
 impl<'a> Stretch<'a> {
@@ -36,10 +36,17 @@ impl<'a> Stretch<'a> {
     {
         cut(self.media, self.from, self.to)
     }
+
+    // The bytes from a place on.
+    pub(crate) fn left(&self, place: u32) -> &'a [u8]
+        ensures { λ r. ⌜ now r ≡ left (now (self .entry)) place ⌝ }
+    {
+        cut(self.media, place, self.to)
+    }
 }
 
 // The bytes from one place up to another, as far as there are such.
-pub fn cut(media: &[u8], from: u32, to: u32) -> &[u8]
+pub(crate) fn cut(media: &[u8], from: u32, to: u32) -> &[u8]
     ensures { λ r. ⌜ now r ≡ between from to (now (media .entry)) ⌝ }
 {
     let end = media.len().min(to as usize);
