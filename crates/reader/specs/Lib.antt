@@ -1,3 +1,4 @@
 pub mod Catalogues
 pub mod Pairs
 pub mod Stretches
+pub mod Walks

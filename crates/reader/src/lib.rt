@@ -2,6 +2,7 @@
 pub mod catalogues;
 pub(crate) mod pairs;
 pub mod stretches;
+pub(crate) mod walks;
 
 pub use catalogues::Catalogue;
 pub use stretches::Stretch;
