@@ -2,7 +2,9 @@
 pub mod catalogues;
 pub(crate) mod pairs;
 pub mod stretches;
+pub mod timescales;
 pub(crate) mod walks;
 
 pub use catalogues::Catalogue;
 pub use stretches::Stretch;
+pub use timescales::Timescale;
