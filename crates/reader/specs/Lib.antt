@@ -1,0 +1,6 @@
+pub mod BigEndian
+pub mod Catalogues
+pub mod Pairs
+pub mod Stretches
+pub mod Timescales
+pub mod Walks
