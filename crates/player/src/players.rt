@@ -13,6 +13,7 @@ pub mod drawing;
 pub mod following;
 pub mod making;
 pub mod playing;
+pub mod reading;
 
 // The two tables that a player borrows, of sizes that it takes.
 #[derive(Drop)]

@@ -1,0 +1,7 @@
+// Run sheets: the commands that their records give, what each does to a player, and the lines that are reported.
+pub mod commands;
+pub mod effects;
+pub mod sheets;
+
+pub use commands::Command;
+pub use sheets::RunSheet;
