@@ -50,7 +50,7 @@ impl<'a> RunSheet<'a> {
         match Command::read(self.place, bytes) {
             None => Some(Err(Refusal::RunSheetRecord)),
             Some((command, length)) => {
-                self.place += length as u32;
+                self.place += length;
                 Some(Ok(command))
             }
         }
