@@ -1,6 +1,7 @@
 // Readers: from bytes of the media buffer to the catalogue of streams and to the records of a feed.
 pub mod catalogues;
 pub(crate) mod pairs;
+pub mod sheets;
 pub mod stretches;
 pub mod timescales;
 pub(crate) mod walks;
