@@ -1,7 +1,9 @@
 pub mod BigEndian
 pub mod Catalogues
 pub mod Pairs
+pub mod Readers
 pub mod SheetRecords
+pub mod SheetWalks
 pub mod Sheets
 pub mod Stretches
 pub mod Timescales

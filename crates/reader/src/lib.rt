@@ -7,5 +7,6 @@ pub mod timescales;
 pub(crate) mod walks;
 
 pub use catalogues::Catalogue;
+pub use sheets::SheetReader;
 pub use stretches::Stretch;
 pub use timescales::Timescale;

@@ -1,0 +1,1 @@
+// A sheet reader is a feed.
