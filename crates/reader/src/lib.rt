@@ -8,5 +8,6 @@ pub(crate) mod walks;
 
 pub use catalogues::Catalogue;
 pub use sheets::SheetReader;
+pub use sheets::feed::SheetFeed;
 pub use stretches::Stretch;
 pub use timescales::Timescale;
