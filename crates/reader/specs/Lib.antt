@@ -1,6 +1,10 @@
 pub mod BigEndian
 pub mod Catalogues
 pub mod Pairs
+pub mod Readers
+pub mod SheetRecords
+pub mod SheetWalks
+pub mod Sheets
 pub mod Stretches
 pub mod Timescales
 pub mod Walks
