@@ -43,6 +43,7 @@ digits-joined a b c d f =
     )
 
 restored-full : (a b c d : ℕ) (bs rest : List ℕ) → full a b c d ≡ true → encoded bs ≡ rest → encoded (group a b c d ++ bs) ≡ a ∷ b ∷ c ∷ d ∷ rest
+unfolding encoded
 restored-full a b c d bs rest f e =
     let n : ℕ = joined (value a) (value b) (value c) (value d) in
     let kd : known d ≡ true = grind (arith) in
@@ -52,6 +53,7 @@ restored-full a b c d bs rest f e =
     ∙ (λ i. (ap digits (packed-bytes n small) ∙ digits-joined a b c d f) i ++ e i)
 
 restored-one : (a b : ℕ) → padded a b padding padding ≡ true → encoded (group a b padding padding) ≡ a ∷ b ∷ padding ∷ padding ∷ []
+unfolding encoded
 restored-one a b p =
     let ka : known a ≡ true = grind (arith) in
     let kb : known b ≡ true = grind (arith) in
@@ -68,6 +70,7 @@ restored-one a b p =
     rw (whole, first-digit (value a) (value b) 0 0 ha hb none none, second-digit (value a) (value b) 0 0 ha hb none none, digit-value a ha, digit-value b hb)
 
 restored-two : (a b c : ℕ) → padded a b c padding ≡ true → eqb c padding ≡ false → encoded (group a b c padding) ≡ a ∷ b ∷ c ∷ padding ∷ []
+unfolding encoded
 restored-two a b c p u =
     let ka : known a ≡ true = grind (arith) in
     let kb : known b ≡ true = grind (arith) in
@@ -94,6 +97,7 @@ restored-padded a b c d p =
     p
 
 pub restored : (t : List ℕ) → Restored t
+unfolding accepted decoded encoded
 restored [] h = refl
 restored (a ∷ []) h = absurd (false≢true h)
 restored (a ∷ b ∷ []) h = absurd (false≢true h)
@@ -117,6 +121,7 @@ group-eight a b c d =
     (λ _. eight (joined (value a) (value b) (value c) (value d)))
 
 pub decoded-bytes : (t : List ℕ) → All Byte (decoded t)
+unfolding decoded
 decoded-bytes [] = tt
 decoded-bytes (a ∷ []) = tt
 decoded-bytes (a ∷ b ∷ []) = tt
