@@ -1,16 +1,15 @@
 -- Decoding undoes encoding.
-use Prim.Native.Nat.{ℕ, _+_, _*_, _/_, _%_, _<_}
-use mathlib.Core.Bool.{Bool, true, false, cond, _&&_, _||_}
+use Prim.Native.Nat.{ℕ, _+_, _/_, _%_, _<_}
+use mathlib.Core.Bool.{true, false}
 use mathlib.Core.List.{List, [], _∷_, _++_}
 use mathlib.Core.Path.{_≡_, refl, sym, ap, _∙_}
 use native.Mathlib.Omega.{arith}
 use lib.Dec.{eqb}
-use lib.ListN.{take}
 use Rattle.std.proofs.shelf.Tests.{cond-false, eq-eqb, lt-ltb}
 use Rattle.std.specs.shelf.Lists.{All}
 use Rattle.base64.specs.Alphabet.{digit, padding, value}
 use Rattle.base64.specs.Laws.{Byte, Undone}
-use Rattle.base64.specs.Texts.{accepted, octets, decoded, digits, encoded, full, group, joined, known, packed, padded}
+use Rattle.base64.specs.Texts.{accepted, octets, decoded, encoded, full, group, joined, known, packed, padded}
 use Rattle.base64.proofs.Bits.{joined-digits, packed-below, first-byte, second-byte, third-byte}
 use Rattle.base64.proofs.Digits.{value-digit, unpadded}
 use Rattle.base64.proofs.Fours.{goes-on}
