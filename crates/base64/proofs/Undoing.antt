@@ -1,16 +1,15 @@
 -- Decoding undoes encoding.
-use Prim.Native.Nat.{ℕ, _+_, _*_, _/_, _%_, _<_}
-use mathlib.Core.Bool.{Bool, true, false, cond, _&&_, _||_}
+use Prim.Native.Nat.{ℕ, _+_, _/_, _%_, _<_}
+use mathlib.Core.Bool.{true, false}
 use mathlib.Core.List.{List, [], _∷_, _++_}
 use mathlib.Core.Path.{_≡_, refl, sym, ap, _∙_}
 use native.Mathlib.Omega.{arith}
 use lib.Dec.{eqb}
-use lib.ListN.{take}
 use Rattle.std.proofs.shelf.Tests.{cond-false, eq-eqb, lt-ltb}
 use Rattle.std.specs.shelf.Lists.{All}
 use Rattle.base64.specs.Alphabet.{digit, padding, value}
 use Rattle.base64.specs.Laws.{Byte, Undone}
-use Rattle.base64.specs.Texts.{accepted, octets, decoded, digits, encoded, full, group, joined, known, packed, padded}
+use Rattle.base64.specs.Texts.{accepted, octets, decoded, encoded, full, group, joined, known, packed, padded}
 use Rattle.base64.proofs.Bits.{joined-digits, packed-below, first-byte, second-byte, third-byte}
 use Rattle.base64.proofs.Digits.{value-digit, unpadded}
 use Rattle.base64.proofs.Fours.{goes-on}
@@ -44,9 +43,11 @@ bytes-packed : (a b c : ℕ) → a < 256 → b < 256 → c < 256 → octets (pac
 bytes-packed a b c ha hb hc = rw (first-byte a b c ha hb hc, second-byte a b c ha hb hc, third-byte a b c ha hb hc)
 
 closed : (a b c d : ℕ) → padded a b c d ≡ true → accepted (a ∷ b ∷ c ∷ d ∷ []) ≡ true
+unfolding accepted
 closed a b c d e = grind (arith)
 
 undone-one : (a : ℕ) → a < 256 → Undone (a ∷ [])
+unfolding accepted decoded encoded
 undone-one a h =
     let n : ℕ = packed a 0 0 in
     let small = packed-below a 0 0 h (omega arith) (omega arith) in
@@ -63,6 +64,7 @@ undone-one a h =
     )
 
 undone-two : (a b : ℕ) → a < 256 → b < 256 → Undone (a ∷ b ∷ [])
+unfolding accepted decoded encoded
 undone-two a b ha hb =
     let n : ℕ = packed a b 0 in
     let small = packed-below a b 0 ha hb (omega arith) in
@@ -81,6 +83,7 @@ undone-two a b ha hb =
     )
 
 pub undone : (bs : List ℕ) → All Byte bs → Undone bs
+unfolding accepted decoded encoded
 undone [] h = (refl, refl)
 undone (a ∷ []) h = undone-one a (h .0)
 undone (a ∷ b ∷ []) h = undone-two a b (h .0) (h .1 .0)

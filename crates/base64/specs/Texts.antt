@@ -32,7 +32,7 @@ abbrev pub none : List ℕ → Bool
 none [] = true
 none (x ∷ xs) = false
 
-abbrev pub accepted : List ℕ → Bool
+unfoldable pub accepted : List ℕ → Bool
 accepted [] = true
 accepted (a ∷ []) = false
 accepted (a ∷ b ∷ []) = false
@@ -51,7 +51,7 @@ group a b c d =
     (cond (eqb c padding) (take 1 (octets (joined (value a) (value b) 0 0))) (take 2 (octets (joined (value a) (value b) (value c) 0))))
     (octets (joined (value a) (value b) (value c) (value d)))
 
-abbrev pub decoded : List ℕ → List ℕ
+unfoldable pub decoded : List ℕ → List ℕ
 decoded [] = []
 decoded (a ∷ []) = []
 decoded (a ∷ b ∷ []) = []
@@ -64,7 +64,7 @@ packed a b c = (a * 256 + b) * 256 + c
 abbrev pub digits : ℕ → List ℕ
 digits n = digit (n / 262144 % 64) ∷ digit (n / 4096 % 64) ∷ digit (n / 64 % 64) ∷ digit (n % 64) ∷ []
 
-abbrev pub encoded : List ℕ → List ℕ
+unfoldable pub encoded : List ℕ → List ℕ
 encoded [] = []
 encoded (a ∷ []) = take 2 (digits (packed a 0 0)) ++ padding ∷ padding ∷ []
 encoded (a ∷ b ∷ []) = take 3 (digits (packed a b 0)) ++ padding ∷ []
