@@ -2,13 +2,21 @@
 ghost use mathlib.Core.Path.{_≡_};
 ghost use Rattle.event.specs.Numbers.{answer};
 ghost use Rattle.player.specs.State.{state};
-ghost use Rattle.runsheet.specs.Effects.{drawsAll};
+ghost use Rattle.runsheet.specs.Effects.{drawsAll, performs};
+ghost use Rattle.reader.specs.Catalogues.{listed};
+use crate::commands::Command;
 use event::Feed;
 use event::Refusal;
 use event::Sink;
 use player::Drawn;
 use player::Player;
+use layers::Period;
+use reader::Catalogue;
+use reader::SheetReader;
+use reader::Stretch;
 use player::players::DrawnPartialEq;
+use layers::PeriodFeed;
+use reader::SheetFeed;
 
 // Draws from a feed until its clean end or a refusal.
 pub fn draw_all<F: Feed, S: Sink>(player: &mut Player, feed: &mut F, sink: &mut S) -> Result<(), Refusal>
@@ -17,6 +25,24 @@ pub fn draw_all<F: Feed, S: Sink>(player: &mut Player, feed: &mut F, sink: &mut 
     loop {
         if player.draw(feed, sink)? == Drawn::End {
             return Ok(());
+        }
+    }
+}
+
+// Does what a command asks for, over the media buffer that its sheet stands in.
+pub fn perform<'a, S: Sink>(command: Command, media: &'a [u8], catalogue: &'a Catalogue<'a>, player: &mut Player, sink: &mut S) -> Result<(), Refusal>
+    ensures { λ r. ⌜ (answer r, state (now (player .exit)), held (now (sink .exit))) ≡ performs command (now (media .entry)) (listed (now (catalogue .entry))) (state (now (player .entry))) (held (now (sink .entry))) ⌝ }
+{
+    match command {
+        Command::Follow { stream, mode } => player.follow(stream, mode),
+        Command::Play { to } => {
+            player.play(to, sink)?;
+            Ok(())
+        }
+        Command::DrawSheet { start, from, to } => {
+            let stretch = Stretch::new(media, from, to)?;
+            let mut feed = Period::new(SheetReader::new(stretch, catalogue), start);
+            draw_all(player, &mut feed, sink)
         }
     }
 }
