@@ -1,4 +1,5 @@
 pub mod BigEndian
+pub mod CatalogueWalks
 pub mod Catalogues
 pub mod Pairs
 pub mod Readers
