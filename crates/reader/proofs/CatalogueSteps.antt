@@ -25,6 +25,7 @@ use Rattle.reader.specs.declared.stretches.Stretch.{Stretch}
 use Rattle.reader.specs.declared.walks.Turn.the-variants.{Clean, Broken, Gives}
 use Rattle.reader.proofs.Parts as parts
 use Rattle.reader.proofs.Parts.{part-fits}
+use Rattle.reader.proofs.Refused.{same-refusal}
 use Rattle.reader.proofs.Strings.{stands}
 use Rattle.reader.proofs.Turns.{given-is}
 
@@ -91,7 +92,7 @@ refused-settled at ts a s None e =
     let l : length ts ≡ length (ts ++ s ∷ []) = ap (λ p. length (p .1)) e in absurd (omega (arith, length-push ts s))
 refused-settled at ts a s (Some x) e = (x, refl, ap (λ p. p .0) e)
 
-pub refused-from : (at : ℕ) (ts : List Stream) (a : Answer ℕ) (o : Option Stream) → (a, ts) ≡ added at o ts → (e : Refusal) × (recordTurn ts o ≡ Broken e) × (a ≡ refusal e)
+refused-from : (at : ℕ) (ts : List Stream) (a : Answer ℕ) (o : Option Stream) → (a, ts) ≡ added at o ts → (e : Refusal) × (recordTurn ts o ≡ Broken e) × (a ≡ refusal e)
 refused-from at ts a None e = (CatalogueRecord, refl, ap (λ p. p .0) e)
 refused-from at ts a (Some s) e = refused-settled at ts a s (flaw s ts) e
 
@@ -115,16 +116,22 @@ at-end s at ts h =
     ap (λ w. allListed (before ts w)) (sym (on-from s at ts Clean (cond-true (eqb (length (left s at)) 0) Clean (recordTurn ts (listing (left s at))) h)))
 
 -- a record that stops the walk
-pub at-refused : (s : Stretch) (at : ℕ) (ts : List Stream) (e : Refusal) → eqb (length (left s at)) 0 ≡ false → recordTurn ts (listing (left s at)) ≡ Broken e → refusal e ≡ allListed (before ts (onFrom s at ts))
+at-refused : (s : Stretch) (at : ℕ) (ts : List Stream) (e : Refusal) → eqb (length (left s at)) 0 ≡ false → recordTurn ts (listing (left s at)) ≡ Broken e → refusal e ≡ allListed (before ts (onFrom s at ts))
 at-refused s at ts e h q =
     ap (λ w. allListed (before ts w)) (sym (on-from s at ts (Broken e) (cond-false (eqb (length (left s at)) 0) Clean (recordTurn ts (listing (left s at))) h ∙ q)))
+
+-- a record that is refused, with the list unchanged
+pub at-stop : (s : Stretch) (at : ℕ) (ts : List Stream) (e : Refusal) → eqb (length (left s at)) 0 ≡ false → (refusal e, ts) ≡ added at (listing (left s at)) ts → refusal e ≡ allListed (before ts (onFrom s at ts))
+at-stop s at ts e h q =
+    let r = refused-from at ts (refusal e) (listing (left s at)) q in
+    same-refusal ℕ (List Stream) e (r .0) (r .2) ∙ at-refused s at ts (r .0) h (r .1)
 
 -- a record that is listed
 pub at-listed : (s : Stretch) (at place : ℕ) (ts us : List Stream) → eqb (length (left s at)) 0 ≡ false → Listed at place ts us (listing (left s at)) → before us (onFrom s place us) ≡ before ts (onFrom s at ts)
 at-listed s at place ts us h l =
     let w : Walked Stream Refusal = onFrom s (at + long (l .one)) us in
     let turned : onFrom s at ts ≡ record { items = l .one ∷ w .items; stop = w .stop } =
-        on-from s at ts (Gives (l .one) us (long (l .one))) (cond-false (eqb (length (left s at)) 0) Clean (recordTurn ts (listing (left s at))) h ∙ l .turn) in
+    on-from s at ts (Gives (l .one) us (long (l .one))) (cond-false (eqb (length (left s at)) 0) Clean (recordTurn ts (listing (left s at))) h ∙ l .turn) in
     ap (λ p. before us (onFrom s p us)) (l .place-is) ∙ ap (λ x. before x w) (l .list-is) ∙
     ap (λ x. record { items = x; stop = w .stop }) (append-assoc ts (l .one ∷ []) (w .items)) ∙
     ap (before ts) (sym turned)
