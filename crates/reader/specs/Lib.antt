@@ -1,5 +1,7 @@
 pub mod BigEndian
+pub mod CatalogueWalks
 pub mod Catalogues
+pub mod Insides
 pub mod Pairs
 pub mod Readers
 pub mod SheetRecords

@@ -12,7 +12,7 @@ pub struct Pair<'a> {
 
 impl<'a> Pair<'a> {
     // The strings of these lengths that stand at the front of the bytes, unless they are cut.
-    pub fn front(bytes: &'a [u8], scheme: u8, value: u8) -> Option<Pair<'a>>
+    pub(crate) fn front(bytes: &'a [u8], scheme: u8, value: u8) -> Option<Pair<'a>>
         ensures { λ r. ⌜ lettered r ≡ fronted scheme value (now (bytes .entry)) ⌝ }
     {
         let middle = scheme as usize;
@@ -27,7 +27,7 @@ impl<'a> Pair<'a> {
     }
 
     // The pair that an `SV` record at the front of the bytes lists, unless the mark is another or the record is cut.
-    pub fn listed(bytes: &'a [u8]) -> Option<Pair<'a>>
+    pub(crate) fn listed(bytes: &'a [u8]) -> Option<Pair<'a>>
         ensures { λ r. ⌜ lettered r ≡ listing (now (bytes .entry)) ⌝ }
     {
         match bytes {
@@ -37,14 +37,14 @@ impl<'a> Pair<'a> {
     }
 
     // Both strings are the same, byte for byte.
-    pub fn is(self, other: Pair) -> bool
+    pub(crate) fn is(self, other: Pair) -> bool
         ensures { λ r. ⌜ r ≡ same (stream (self .entry)) (stream (other .entry)) ⌝ }
     {
         alike(self.scheme, other.scheme) && alike(self.value, other.value)
     }
 
     // The scheme is not empty, and neither string holds a 0 byte.
-    pub fn is_proper(self) -> bool
+    pub(crate) fn is_proper(self) -> bool
         ensures { λ r. ⌜ r ≡ proper (stream (self .entry)) ⌝ }
     {
         !self.scheme.is_empty() && !holds_zero(self.scheme) && !holds_zero(self.value)

@@ -4,10 +4,10 @@ use crate::stretches::Stretch;
 use crate::timescales::Timescale;
 use event::Look;
 
-pub mod events;
+mod events;
 pub mod feed;
-pub mod records;
-pub mod turns;
+mod records;
+mod turns;
 
 // What the latest `ES` record says: how its events count time, and the number of their stream, if it is listed.
 #[derive(Clone, Copy)]

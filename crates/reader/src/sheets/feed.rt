@@ -1,6 +1,7 @@
 // A sheet reader is a feed.
 ghost use mathlib.Core.Path.{_≡_};
 ghost use Rattle.reader.specs.Catalogues.{listed};
+ghost use Rattle.reader.specs.Insides.{AllInside};
 ghost use Rattle.reader.specs.SheetWalks.{coming as comes, sheet};
 ghost use Rattle.reader.specs.Stretches.{part};
 use super::Sheet;
@@ -13,7 +14,8 @@ use event::Look;
 impl<'a> SheetReader<'a> {
     // A reader of the sheet in a stretch, with the streams of a catalogue.
     pub fn new(stretch: Stretch<'a>, catalogue: &'a Catalogue<'a>) -> SheetReader<'a>
-        ensures { λ r. ⌜ comes r ≡ sheet (listed (now (catalogue .entry))) (stretch .entry .from) (part (stretch .entry)) ⌝ }
+        ensures coming { λ r. ⌜ comes r ≡ sheet (listed (now (catalogue .entry))) (stretch .entry .from) (part (stretch .entry)) ⌝ }
+        ensures inside { λ r. ⌜ AllInside (stretch .entry .from) (stretch .entry .to) (comes r) ⌝ }
     {
         let sheet = Sheet {
             stretch,

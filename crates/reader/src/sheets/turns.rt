@@ -72,7 +72,7 @@ impl<'a> Sheet<'a> {
     }
 
     // Walks to the next event or to the ending, and has it ready.
-    pub fn advance(self) -> SheetReader<'a>
+    pub(crate) fn advance(self) -> SheetReader<'a>
         ensures { λ r. ⌜ coming r ≡ behind (self .entry) ⌝ }
     {
         let mut sheet = self;
