@@ -28,10 +28,11 @@ abbrev pub Seek : Type 0
 Seek = Answer ℕ × State × Held
 
 abbrev pub seeksTo : ℕ → State → Held → Seek
-seeksTo t w h =
-    (did (length (kept-by (activeAt t) (w .kept))),
-     moved (time t) (activeAt t) w,
-     toldTo h (map (toldBy (atTime (time t))) (kept-by (activeAt t) (w .kept))))
+seeksTo t w h = (
+  did (length (kept-by (activeAt t) (w .kept))),
+  moved (time t) (activeAt t) w,
+  toldTo h (map (toldBy (atTime (time t))) (kept-by (activeAt t) (w .kept))),
+)
 
 abbrev pub seeks : ℕ → State → Held → Seek
 seeks t w h =

@@ -34,8 +34,8 @@ play bs = cond (leb 10 (length bs)) (Some (Play (num64 bs 2), 10)) None
 abbrev pub drawSheet : ℕ → List ℕ → Read
 drawSheet at bs =
     cond (leb 12 (length bs) && leb (12 + num16 bs 10) (length bs))
-      (Some (DrawSheet (num64 bs 2) (at + 12) (at + 12 + num16 bs 10), 12 + num16 bs 10))
-      None
+    (Some (DrawSheet (num64 bs 2) (at + 12) (at + 12 + num16 bs 10), 12 + num16 bs 10))
+    None
 
 abbrev pub marked : ℕ → ℕ → List ℕ → Bool
 marked a b bs = leb 2 (length bs) && (eqb (getD bs 0 0) a && eqb (getD bs 1 0) b)

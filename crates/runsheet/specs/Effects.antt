@@ -41,7 +41,7 @@ drawsAll [] Clean w h = (did tt, w, h)
 drawsAll [] (Broken f) w h = (refusedWith 26 f, w, h)
 drawsAll (e ∷ es) x w h =
     goesOn (receives e w h .0) (receives e w h .1) (receives e w h .2)
-      (drawsAll es x (receives e w h .1) (receives e w h .2))
+    (drawsAll es x (receives e w h .1) (receives e w h .2))
 
 abbrev pub drawsFrom : Coming → State → Held → After
 drawsFrom c w h = drawsAll (c .records) (c .ending) w h

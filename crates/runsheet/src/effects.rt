@@ -8,18 +8,22 @@ use crate::commands::Command;
 use event::Feed;
 use event::Refusal;
 use event::Sink;
+use layers::Period;
+use layers::PeriodFeed;
 use player::Drawn;
 use player::Player;
-use layers::Period;
+use player::players::DrawnPartialEq;
 use reader::Catalogue;
+use reader::SheetFeed;
 use reader::SheetReader;
 use reader::Stretch;
-use player::players::DrawnPartialEq;
-use layers::PeriodFeed;
-use reader::SheetFeed;
 
 // Draws from a feed until its clean end or a refusal.
-pub fn draw_all<F: Feed, S: Sink>(player: &mut Player, feed: &mut F, sink: &mut S) -> Result<(), Refusal>
+pub fn draw_all<F: Feed, S: Sink>(
+    player: &mut Player,
+    feed: &mut F,
+    sink: &mut S,
+) -> Result<(), Refusal>
     ensures { λ r. ⌜ (answer r, state (now (player .exit)), held (now (sink .exit))) ≡ drawsAll (coming (now (feed .entry)) .records) (coming (now (feed .entry)) .ending) (state (now (player .entry))) (held (now (sink .entry))) ⌝ }
 {
     loop {
@@ -30,7 +34,13 @@ pub fn draw_all<F: Feed, S: Sink>(player: &mut Player, feed: &mut F, sink: &mut 
 }
 
 // Does what a command asks for, over the media buffer that its sheet stands in.
-pub fn perform<'a, S: Sink>(command: Command, media: &'a [u8], catalogue: &'a Catalogue<'a>, player: &mut Player, sink: &mut S) -> Result<(), Refusal>
+pub fn perform<'a, 'c, S: Sink>(
+    command: Command,
+    media: &'a [u8],
+    catalogue: &'c Catalogue<'a>,
+    player: &mut Player,
+    sink: &mut S,
+) -> Result<(), Refusal>
     ensures { λ r. ⌜ (answer r, state (now (player .exit)), held (now (sink .exit))) ≡ performs command (now (media .entry)) (listed (now (catalogue .entry))) (state (now (player .entry))) (held (now (sink .entry))) ⌝ }
 {
     match command {

@@ -66,7 +66,11 @@ pub fn run<W: Write>(media: &[u8], out: &mut W) -> io::Result<()> {
 }
 
 // Reads the catalogue, and then performs the commands with a fresh player.
-fn run_sheet<W: Write>(sheet: &mut RunSheet, media: &[u8], out: &mut W) -> io::Result<Summary> {
+fn run_sheet<'a, W: Write>(
+    sheet: &mut RunSheet<'a>,
+    media: &'a [u8],
+    out: &mut W,
+) -> io::Result<Summary> {
     let catalogue = match sheet.catalogue() {
         Err(refusal) => {
             refuse(sheet.count(), refusal, out)?;
@@ -90,7 +94,14 @@ fn run_sheet<W: Write>(sheet: &mut RunSheet, media: &[u8], out: &mut W) -> io::R
 }
 
 // Performs the commands one by one, and reports each dispatch and each refusal.
-fn run_commands<'a, W: Write>(sheet: &mut RunSheet, media: &'a [u8], catalogue: &'a Catalogue<'a>, player: &mut Player, list: &mut RecordList, out: &mut W) -> io::Result<()> {
+fn run_commands<'a, 'c, W: Write>(
+    sheet: &mut RunSheet<'a>,
+    media: &'a [u8],
+    catalogue: &'c Catalogue<'a>,
+    player: &mut Player,
+    list: &mut RecordList,
+    out: &mut W,
+) -> io::Result<()> {
     loop {
         let command = match sheet.next() {
             None => return Ok(()),

@@ -29,7 +29,13 @@ fn follow(bytes: &[u8]) -> Option<(Command, u32)>
         return None;
     };
     let mode = Mode::from_number(*mode);
-    Some((Command::Follow { stream: *stream, mode }, 4))
+    Some((
+        Command::Follow {
+            stream: *stream,
+            mode,
+        },
+        4,
+    ))
 }
 
 // `PL`: a time.

@@ -10,7 +10,7 @@ Inv-loop g l =
     let now = g .F·Feed .coming (l .feed) in
     let first = g .F·Feed .coming (l .entry .feed) in
     drawsAll (now .records) (now .ending) (state (l .player)) (g .S·Sink .held (l .sink))
-      ≡ drawsAll (first .records) (first .ending) (state (l .entry .player)) (g .S·Sink .held (l .entry .sink))
+    ≡ drawsAll (first .records) (first .ending) (state (l .entry .player)) (g .S·Sink .held (l .entry .sink))
 
 abbrev pub μ-loop : given.MeasureT-loop
 μ-loop g l = length (g .F·Feed .coming (l .feed) .records)
