@@ -2,9 +2,12 @@
 pub mod commands;
 pub mod effects;
 pub mod lines;
-pub mod runs;
 pub mod sheets;
 
 pub use commands::Command;
-pub use runs::run;
+pub use effects::perform;
+pub use lines::CueLine;
+pub use lines::CueLineDisplay;
+pub use lines::RefusedLine;
+pub use lines::RefusedLineDisplay;
 pub use sheets::RunSheet;

@@ -44,7 +44,7 @@ fn take(mut taken: Taken, value: u8, out: &mut [u8]) -> Taken {
 }
 
 // Writes the bytes of a text to the front of `out`, and answers how many there are; nothing where the text is not base64.
-pub fn by_bits(text: &[u8], out: &mut [u8]) -> Option<usize> {
+pub(crate) fn by_bits(text: &[u8], out: &mut [u8]) -> Option<usize> {
     if text.len() % 4 != 0 {
         return None;
     }

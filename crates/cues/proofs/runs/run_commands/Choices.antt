@@ -1,5 +1,5 @@
 use Prim.Native.Nat.{_-_}
-use Rattle.runsheet.proofs.runs.run_commands.Given as given
+use Rattle.cues.proofs.runs.run_commands.Given as given
 
 abbrev pub Inv-loop-dispatch : given.InvT-loop-dispatch
 Inv-loop-dispatch g l =

@@ -1,11 +1,4 @@
 // A whole run: the lines of a run sheet, from first to last.
-use crate::commands::Command;
-use crate::effects::perform;
-use crate::lines::CueLine;
-use crate::lines::CueLineDisplay;
-use crate::lines::RefusedLine;
-use crate::lines::RefusedLineDisplay;
-use crate::sheets::RunSheet;
 use event::Dispatch;
 use event::Message;
 use event::Refusal;
@@ -17,6 +10,12 @@ use player::Player;
 use player::Tables;
 use player::UsedId;
 use reader::Catalogue;
+use runsheet::CueLine;
+use runsheet::CueLineDisplay;
+use runsheet::RefusedLine;
+use runsheet::RefusedLineDisplay;
+use runsheet::RunSheet;
+use runsheet::perform;
 use sink::RecordList;
 use sink::RecordListSink;
 use std::io;
@@ -51,7 +50,7 @@ const NO_DISPATCH: Dispatch = Dispatch {
 };
 
 // Runs a run sheet, which is also the media buffer, and writes the lines that it reports.
-pub fn run<W: Write>(media: &[u8], out: &mut W) -> io::Result<()> {
+pub(crate) fn run<W: Write>(media: &[u8], out: &mut W) -> io::Result<()> {
     writeln!(out, "cues 1")?;
     let end = match RunSheet::new(media) {
         Err(refusal) => {
