@@ -138,3 +138,35 @@ module _ (p : Player) (pick : Kept → Bool) where
           ),
           (omega arith, omega arith),
         )
+
+pub used-fewer : (p : Player) (pick : UsedId → Bool) (u : Rows UsedId) → u .len ≡ length (without pick (items (p .used))) → u .len ≤ p .used .len
+used-fewer p pick u e = omega (arith, length-kept-by-both pick (fails pick) (λ _. refl) (items (p .used)), items-length (p .used) (p .sound .0 .1))
+
+-- some forgotten
+module _ (p : Player) (pick : Kept → Bool) (k : Rows Kept)
+    (kept-is : items k ≡ without pick (items (p .kept)))
+    (kept-len : k .len ≡ length (without pick (items (p .kept))))
+    (kept-places : length (k .slots .now) ≡ length (p .kept .slots .now)) where
+  pub forget-fewer : k .len ≤ p .kept .len
+  forget-fewer =
+      omega (arith, length-kept-by-both pick (fails pick) (λ _. refl) (items (p .kept)), items-length (p .kept) (p .sound .0 .0))
+
+  pub forget-within : k .len ≤ length (k .slots .now)
+  forget-within = omega (arith, forget-fewer, p .sound .0 .0)
+
+  pub forgotten : p .kept .len - k .len ≡ length (kept-by pick (items (p .kept)))
+  forgotten =
+      omega (arith, length-kept-by-both pick (fails pick) (λ _. refl) (items (p .kept)), items-length (p .kept) (p .sound .0 .0))
+
+  pub forget-sound : (h : Head) (u : Rows UsedId) → sorted idBefore (items u) ≡ true → u .len ≤ p .used .len → length (u .slots .now) ≡ length (p .used .slots .now) →
+      h .«kept_ids» ≡ ids (items k) → Sound h k u
+  forget-sound h u ordered fewer places counts =
+      let apart = ids-apart pick (items (p .kept)) in
+      let was = p .sound .2 .0 in
+      let fits = p .sound .2 .1 in
+      let left = ap ids kept-is in
+      let within = p .sound .0 .1 in (
+        (forget-within, omega arith),
+        (ap (sorted earlier) kept-is ∙ sorted-filtered earlier (fails pick) (items (p .kept)) (p .sound .1 .0), ordered),
+        (counts, omega arith),
+      )

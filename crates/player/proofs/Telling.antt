@@ -8,7 +8,7 @@ use native.Mathlib.Omega.{arith}
 use lib.ListN.{length, getD, take, drop}
 use Rattle.std.specs.shelf.Lists.{kept-by}
 use Rattle.std.proofs.shelf.Elements.{kept-by-append, kept-by-more}
-use Rattle.std.proofs.shelf.Filters.{length-kept-by-both}
+use Rattle.std.proofs.shelf.Filters.{length-kept-by-both, length-kept-by-more}
 use Rattle.std.proofs.shelf.Lists.{append-assoc, append-nil, length-append, length-map, length-push, length-take, map-push, take-append-drop, take-take}
 use Rattle.std.proofs.shelf.Parts.{drop-append-drop}
 use Rattle.std.proofs.shelf.Tests.{and-from, and-parts, cases-bool}
@@ -189,3 +189,7 @@ sorted-filtered before p (x ∷ xs) h =
       | inl t ↦ rw t (and-from (none (λ y. before y x) (kept-by p xs)) (sorted before (kept-by p xs)) (none-filtered p (λ y. before y x) xs (parts .0)) ih)
       | inr f ↦ rw f ih
     ]
+
+-- counting
+pub counted-more : {X : Type 0} (p : X → Bool) (xs : List X) (i : ℕ) (x : X) (b : Bool) → i < length xs → x ≡ getD xs i x → p x ≡ b → length (kept-by p (take (i + 1) xs)) ≡ length (kept-by p (take i xs)) + cond b 1 0
+counted-more p xs i x b l read e = length-kept-by-more p xs i x l ∙ ap (λ c. length (kept-by p (take i xs)) + cond c 1 0) (ap p (sym read) ∙ e)

@@ -2,8 +2,12 @@
 ghost use mathlib.Core.Path.{_≡_};
 ghost use Rattle.event.specs.declared.times.Time.{Time as Moment};
 ghost use Rattle.player.specs.declared.elements.Kept.{Kept as Item};
+ghost use Rattle.player.specs.Elements.{hasId};
+ghost use Rattle.player.specs.Leaves.{keptIn, usedIn};
 ghost use Rattle.player.specs.Plays.{startOf, startsBy, startsIn};
+ghost use Rattle.player.specs.Seeks.{activeAt, atTime};
 use crate::elements::Kept;
+use crate::elements::UsedId;
 use crate::orders::Test;
 use event::Time;
 
@@ -51,5 +55,61 @@ pub impl Pick for StartsIn as StartsInPick {
 
     fn position(&self, event: Kept) -> Time {
         event.span.start
+    }
+}
+
+// Passes what is active at a time, and is told there.
+#[derive(Clone, Copy)]
+pub struct ActiveAt {
+    pub time: Time,
+}
+
+pub impl Test<Kept> for ActiveAt as ActiveAtTest {
+    ghost passing = { λ t. activeAt (t .time .ms) };
+
+    fn passes(&self, x: Kept) -> bool {
+        x.span.is_active(self.time)
+    }
+}
+
+pub impl Pick for ActiveAt as ActiveAtPick {
+    ghost told_at = { λ t. atTime (t .time) };
+
+    fn position(&self, _event: Kept) -> Time {
+        self.time
+    }
+}
+
+// Passes what is of one stream.
+#[derive(Clone, Copy)]
+pub struct InStream {
+    pub stream: u8,
+}
+
+pub impl Test<Kept> for InStream as KeptInStream {
+    ghost passing = { λ t. keptIn (t .stream) };
+
+    fn passes(&self, x: Kept) -> bool {
+        x.stream == self.stream
+    }
+}
+
+pub impl Test<UsedId> for InStream as UsedInStream {
+    ghost passing = { λ t. usedIn (t .stream) };
+
+    fn passes(&self, x: UsedId) -> bool {
+        x.stream == self.stream
+    }
+}
+
+// Passes the kept events that have an id.
+#[derive(Clone, Copy)]
+pub struct WithId;
+
+pub impl Test<Kept> for WithId as WithIdTest {
+    ghost passing = { λ _. hasId };
+
+    fn passes(&self, x: Kept) -> bool {
+        x.id.is_some()
     }
 }

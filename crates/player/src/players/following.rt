@@ -2,8 +2,16 @@
 ghost use mathlib.Core.Path.{_≡_};
 ghost use Rattle.event.specs.Numbers.{answer};
 ghost use Rattle.player.specs.Follows.{follows, modeOf};
-ghost use Rattle.player.specs.State.{state};
+ghost use Rattle.player.specs.Leaves.{leaves};
+ghost use Rattle.player.specs.State.{Lent, state};
+ghost use Rattle.std.specs.Results.{isOk};
+ghost use mathlib.Core.Bool.{false};
 use super::Player;
+use crate::picks::InStream;
+use crate::picks::KeptInStream;
+use crate::picks::UsedInStream;
+use crate::picks::WithId;
+use crate::picks::WithIdTest;
 use event::Mode;
 use event::Refusal;
 use event::modes::ModePartialEq;
@@ -22,7 +30,9 @@ impl Player<'_> {
 
     // Sets a stream's mode, unless it is followed already.
     pub fn follow(&mut self, stream: u8, mode: Mode) -> Result<(), Refusal>
-        ensures { λ r. ⌜ (answer r, state (now (self .exit))) ≡ follows stream mode (state (now (self .entry))) ⌝ }
+        ensures after { λ r. ⌜ (answer r, state (now (self .exit))) ≡ follows stream mode (state (now (self .entry))) ⌝ }
+        ensures lent { λ _. ⌜ Lent (now (self .entry)) (now (self .exit)) ⌝ }
+        ensures same { λ r. ⌜ (isOk r ≡ false → now (self .exit) ≡ now (self .entry)) ⌝ }
     {
         if stream >= self.head.streams.count() {
             return Err(Refusal::UnknownStream);
@@ -35,5 +45,25 @@ impl Player<'_> {
         }
         self.head.modes[stream as usize] = mode;
         Ok(())
+    }
+
+    // Sets a stream's mode to off, and forgets its kept events and used ids.
+    pub fn leave(&mut self, stream: u8) -> Result<usize, Refusal>
+        ensures after { λ r. ⌜ (answer r, state (now (self .exit))) ≡ leaves stream (state (now (self .entry))) ⌝ }
+        ensures lent { λ _. ⌜ Lent (now (self .entry)) (now (self .exit)) ⌝ }
+        ensures same { λ r. ⌜ (isOk r ≡ false → now (self .exit) ≡ now (self .entry)) ⌝ }
+    {
+        if stream >= self.head.streams.count() {
+            return Err(Refusal::UnknownStream);
+        }
+        if self.mode(stream) == Mode::Off {
+            return Err(Refusal::NotFollowed);
+        }
+        let before = self.kept.len;
+        self.kept.remove(&InStream { stream });
+        self.used.remove(&InStream { stream });
+        self.head.kept_ids = self.kept.count(&WithId);
+        self.head.modes[stream as usize] = Mode::Off;
+        Ok(before - self.kept.len)
     }
 }

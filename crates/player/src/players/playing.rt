@@ -13,6 +13,7 @@ ghost use Rattle.event.specs.Times.{time};
 ghost use Rattle.player.specs.Elements.{dispatched, idBefore};
 ghost use Rattle.player.specs.Plays.{markedAll, moved, plays, reach, toldBy, toldTo};
 ghost use Rattle.player.specs.Rows.{items};
+ghost use Rattle.player.specs.Seeks.{seeks};
 ghost use Rattle.player.specs.State.{Lent, ids, state};
 ghost use Rattle.player.specs.Tables.{sorted};
 use super::Played;
@@ -21,6 +22,9 @@ use super::drawing::mark;
 use super::drawing::tell_free;
 use crate::elements::Kept;
 use crate::elements::UsedId;
+use crate::picks::ActiveAt;
+use crate::picks::ActiveAtPick;
+use crate::picks::ActiveAtTest;
 use crate::picks::Pick;
 use crate::picks::StartsBy;
 use crate::picks::StartsByTest;
@@ -119,5 +123,23 @@ impl Player<'_> {
         let told = self.tell_kept(&due, sink);
         self.head.playhead = playhead;
         Ok(Played { told, playhead })
+    }
+
+    // Jumps to a time, forward or back: tells every kept event that is active there.
+    pub fn seek<S: Sink>(&mut self, to: u64, sink: &mut S) -> Result<usize, Refusal>
+        ensures after { λ r. ⌜ (answer r, state (now (self .exit)), held (now (sink .exit))) ≡ seeks to (state (now (self .entry))) (held (now (sink .entry))) ⌝ }
+        ensures lent { λ _. ⌜ Lent (now (self .entry)) (now (self .exit)) ⌝ }
+        ensures same { λ r. ⌜ (isOk r ≡ false → (now (self .exit) ≡ now (self .entry)) × (now (sink .exit) ≡ now (sink .entry))) ⌝ }
+    {
+        let Some(target) = Time::new(to) else {
+            return Err(Refusal::TargetPastLatest);
+        };
+        let active = ActiveAt { time: target };
+        if sink.free_places() < self.kept.count(&active) {
+            return Err(Refusal::NoFreePlace);
+        }
+        let told = self.tell_kept(&active, sink);
+        self.head.playhead = target;
+        Ok(told)
     }
 }

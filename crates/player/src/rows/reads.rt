@@ -3,6 +3,7 @@ ghost use mathlib.Core.Bool.{true};
 ghost use mathlib.Core.Path.{_≡_};
 ghost use Prim.Native.Nat.{_≤_};
 ghost use lib.ListN.{length};
+ghost use Rattle.std.specs.shelf.Lists.{kept-by};
 ghost use Rattle.player.specs.Tables.{any, leading, prefix, sorted, tied};
 ghost use Rattle.player.specs.Rows.{items};
 use super::Rows;
@@ -31,6 +32,21 @@ impl<T: Copy> Rows<'_, T> {
             }
         }
         low
+    }
+
+    // How many elements pass a test.
+    pub(crate) fn count<P: Test<T>>(&self, test: &P) -> usize
+        requires { ⌜ now self .len ≤ length (now (now self .slots)) ⌝ }
+        ensures { λ r. ⌜ r ≡ length (kept-by (passing (now (test .entry))) (items (now (self .entry)))) ⌝ }
+    {
+        let slots = &*self.slots;
+        let mut count = 0;
+        for i in 0..self.len {
+            if test.passes(slots[i]) {
+                count += 1;
+            }
+        }
+        count
     }
 
     // Whether an element passes a test.
