@@ -1,5 +1,6 @@
 pub mod Draws
 pub mod Elements
+pub mod Evicts
 pub mod Follows
 pub mod Leaves
 pub mod Plays
