@@ -7,3 +7,4 @@ pub mod Sorting
 pub mod Telling
 pub mod Reaching
 pub mod Playing
+pub mod Outcomes
