@@ -8,3 +8,5 @@ pub mod Telling
 pub mod Reaching
 pub mod Playing
 pub mod Outcomes
+pub mod Counting
+pub mod Lasting

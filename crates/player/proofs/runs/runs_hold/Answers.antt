@@ -1,4 +1,5 @@
 use Rattle.player.proofs.Outcomes
+use Rattle.player.proofs.Lasting
 use Rattle.player.proofs.runs.runs_hold.Needs as need
 
 pub returns : need.returns
