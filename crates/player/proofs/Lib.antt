@@ -10,3 +10,4 @@ pub mod Playing
 pub mod Outcomes
 pub mod Counting
 pub mod Lasting
+pub mod Tallying

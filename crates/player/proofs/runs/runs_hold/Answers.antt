@@ -1,6 +1,11 @@
-use Rattle.player.proofs.Outcomes
-use Rattle.player.proofs.Lasting
+use Rattle.player.proofs.Lasting.{steady-new, steady-runs}
+use Rattle.player.proofs.Tallying.{tallied}
 use Rattle.player.proofs.runs.runs_hold.Needs as need
 
 pub returns : need.returns
-returns c = ?
+returns c = record {
+  stops-change-nothing = ?;
+  told-at-most-once-while-followed = ?;
+  none-kept-active = λ n k m f w h cs. steady-runs cs w (steady-new n k m f w h) .resting;
+  tally-adds-up = tallied;
+}
