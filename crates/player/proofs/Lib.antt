@@ -11,3 +11,4 @@ pub mod Outcomes
 pub mod Counting
 pub mod Lasting
 pub mod Tallying
+pub mod Followed

@@ -1,3 +1,4 @@
+use Rattle.player.proofs.Followed.{told-once}
 use Rattle.player.proofs.Lasting.{steady-new, steady-runs}
 use Rattle.player.proofs.Tallying.{tallied}
 use Rattle.player.proofs.runs.runs_hold.Needs as need
@@ -5,7 +6,7 @@ use Rattle.player.proofs.runs.runs_hold.Needs as need
 pub returns : need.returns
 returns c = record {
   stops-change-nothing = ?;
-  told-at-most-once-while-followed = ?;
+  told-at-most-once-while-followed = told-once;
   none-kept-active = λ n k m f w h cs. steady-runs cs w (steady-new n k m f w h) .resting;
   tally-adds-up = tallied;
 }
