@@ -12,3 +12,4 @@ pub mod Counting
 pub mod Lasting
 pub mod Tallying
 pub mod Followed
+pub mod Joining
