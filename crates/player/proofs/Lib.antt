@@ -13,3 +13,4 @@ pub mod Lasting
 pub mod Tallying
 pub mod Followed
 pub mod Joining
+pub mod Bare

@@ -1,5 +1,6 @@
 use Rattle.player.proofs.Followed.{told-once}
 use Rattle.player.proofs.Joining
+use Rattle.player.proofs.Bare
 use Rattle.player.proofs.Lasting.{steady-new, steady-runs}
 use Rattle.player.proofs.Tallying.{tallied}
 use Rattle.player.proofs.runs.runs_hold.Needs as need
