@@ -14,3 +14,4 @@ pub mod Tallying
 pub mod Followed
 pub mod Joining
 pub mod Bare
+pub mod Stopping
