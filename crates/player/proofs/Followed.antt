@@ -24,7 +24,7 @@ use Rattle.player.specs.Elements.{dispatched, keptOf}
 use Rattle.player.specs.Draws.{marked}
 use Rattle.player.specs.Follows.{inMode, isOff, modeOf}
 use Rattle.player.specs.Leaves.{usedIn}
-use Rattle.player.specs.Once.{Followed, Once, endsFollow, followed, since, tellsId, tellsOf, whileActive}
+use Rattle.player.specs.Once.{Once, OnceWhileFollowed, leavesIt, since, staysFollowed, tellsId, tellsOf, whileActive}
 use Rattle.player.specs.Plays.{markedAll, toldBy}
 use Rattle.player.specs.Runs.{Call, New, World, after, does, done, runs}
 use Rattle.player.specs.Runs.Call.{draw, play, seek, follow, leave, evict}
@@ -107,7 +107,7 @@ off-apart a b p q e = let f : isOff OnStart ≡ true = subst (λ x. isOff x ≡ 
 named-apart : (s i r : ℕ) (n : UsedId) → (s ≡ r → ⊥) → used-as s i n ≡ true → usedIn r n ≡ false
 named-apart s i r n apart e = grind (arith, tells)
 
-watched-way : (s : ℕ) (base : List Dispatch) {w v : World} {c : Call} → endsFollow s c w ≡ false → Watched s base w → Way w c v → Watched s base v
+watched-way : (s : ℕ) (base : List Dispatch) {w v : World} {c : Call} → leavesIt s c w ≡ false → Watched s base w → Way w c v → Watched s base v
 watched-way s base stay h stays = h
 watched-way s base {w} {v} stay h (tells-at-once r e is) =
     let apart : r ≡ s → ⊥ = λ q. modes-apart (modeOf (w .player) s) (modeOf (w .player) r) (h .mode) is (ap (modeOf (w .player)) (sym q)) in
@@ -125,15 +125,15 @@ watched-way s base {w} {v} stay h (follows-it r m off) =
     let apart : s ≡ r → ⊥ = λ q. off-apart (modeOf (w .player) s) (modeOf (w .player) r) (h .mode) off (ap (modeOf (w .player)) q) in
     watched-same s base w v h (mode-other (w .player) s r m apart) refl (λ i. omega arith)
 watched-way s base {w} {v} {c} stay h (leaves-it r ends) =
-    let apart : s ≡ r → ⊥ = λ q. both-ways (endsFollow r c w) (subst (λ x. endsFollow x c w ≡ false) q stay) ends in
+    let apart : s ≡ r → ⊥ = λ q. both-ways (leavesIt r c w) (subst (λ x. leavesIt x c w ≡ false) q stay) ends in
     watched-same s base w v h (mode-other (w .player) s r Off apart) refl (λ i. omega (arith, count-unhurt (used-as s i) (usedIn r) (w .player .used) (λ n e. named-apart s i r n apart e)))
 watched-way s base {w} {v} stay h (evicts-some a b) = watched-same s base w v h refl refl (λ i. omega arith)
 
-watched-runs : (s : ℕ) (base : List Dispatch) (cs : List Call) (w : World) → followed s cs w ≡ true → Watched s base w → Watched s base (runs cs w)
+watched-runs : (s : ℕ) (base : List Dispatch) (cs : List Call) (w : World) → staysFollowed s cs w ≡ true → Watched s base w → Watched s base (runs cs w)
 watched-runs s base [] w stay h = h
 watched-runs s base (c ∷ cs) w stay h =
-    let parts = and-parts (not (endsFollow s c w)) (followed s cs (after c w)) stay in
-    watched-runs s base cs (after c w) (parts .1) (watched-way s base (not-true (endsFollow s c w) (parts .0)) h (way c w))
+    let parts = and-parts (not (leavesIt s c w)) (staysFollowed s cs (after c w)) stay in
+    watched-runs s base cs (after c w) (parts .1) (watched-way s base (not-true (leavesIt s c w) (parts .0)) h (way c w))
 
 -- a follow that is not refused sets the mode
 followed-on : (s : ℕ) (w : World) → Moded w → done (does (follow s OnStart) w .0) ≡ true → Watched s (w .sink .told) (after (follow s OnStart) w)
@@ -156,10 +156,10 @@ once s w v h steady =
     let is : h .news ≡ since w v = sym (ap (drop (length (w .sink .told))) (h .told) ∙ drop-at (w .sink .told) (h .news) (length (w .sink .told)) refl) in
     subst (Once s) is (record { once = λ i. omega (arith, h .used i, steady .single s i); active = h .active })
 
-pub told-once : (n k m f : ℕ) (w : World) → n ≤ 32 → New n k m f w → Followed w
-told-once n k m f w few h before s during accepted stay =
+pub told-once : (n k m f : ℕ) (w : World) → New n k m f w → OnceWhileFollowed w
+told-once n k m f w h before s during accepted stay =
     let start : World = runs before w in
     let on : World = after (follow s OnStart) start in
-    let moded = moded-runs before w (moded-new n k m f w few h) in
+    let moded = moded-runs before w (moded-new n k m f w h) in
     let steady = steady-runs during on (steady-after (follow s OnStart) start (steady-runs before w (steady-new n k m f w h))) in
     once s start (runs during on) (watched-runs s (start .sink .told) during on stay (followed-on s start moded accepted)) steady

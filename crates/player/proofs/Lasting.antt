@@ -16,7 +16,7 @@ use Rattle.player.specs.Draws.{known, marked}
 use Rattle.player.specs.Elements.{earlier}
 use Rattle.player.specs.Evicts.{arrivedIn}
 use Rattle.player.specs.Leaves.{keptIn, usedIn}
-use Rattle.player.specs.Once.{Resting}
+use Rattle.player.specs.Once.{NoneKeptActive, noneActive}
 use Rattle.player.specs.Plays.{markedAll, moved}
 use Rattle.player.specs.Runs.{Call, New, World, after, runs}
 use Rattle.player.specs.Seeks.{activeAt}
@@ -38,7 +38,7 @@ Single w = (s i : ℕ) → count (used-as s i) (w .used) + count (kept-as s i) (
 pub record Steady (w : World) : Type 0 where
   pub ordered : sorted earlier (w .player .kept) ≡ true
   pub single : Single (w .player)
-  pub resting : Resting w
+  pub resting : noneActive (w .player) ≡ true
 
 -- an event that is not known has one count more, of used ids or of kept events
 module _ (w : State) (k : Kept) (new : known k w ≡ false) (single : Single w) (s i : ℕ) where
@@ -112,6 +112,9 @@ steady-new n k m f w h =
       resting = ap (none (activeAt (w .player .playhead .ms))) kept-none;
     }
 
+pub none-active : (n k m f : ℕ) (w : World) → New n k m f w → NoneKeptActive w
+none-active n k m f w h cs = steady-runs cs w (steady-new n k m f w h) .resting
+
 -- a mode for each stream
 abbrev pub Moded : World → Type 0
 Moded w = w .player .streams ≤ length (w .player .modes)
@@ -133,5 +136,5 @@ pub moded-runs : (cs : List Call) (w : World) → Moded w → Moded (runs cs w)
 moded-runs [] w h = h
 moded-runs (c ∷ cs) w h = moded-runs cs (after c w) (moded-after c w h)
 
-pub moded-new : (n k m f : ℕ) (w : World) → n ≤ 32 → New n k m f w → Moded w
-moded-new n k m f w l h = omega (arith, ap (λ p. p .streams) (h .player), ap (λ p. length (p .modes)) (h .player))
+pub moded-new : (n k m f : ℕ) (w : World) → New n k m f w → Moded w
+moded-new n k m f w h = omega (arith, h .few, ap (λ p. p .streams) (h .player), ap (λ p. length (p .modes)) (h .player))

@@ -35,7 +35,7 @@ use Rattle.player.specs.Elements.{dispatched, earlier, keptOf, starts}
 use Rattle.player.specs.Evicts.{arrivedIn}
 use Rattle.player.specs.Follows.{inMode, isOff, modeOf}
 use Rattle.player.specs.Leaves.{left}
-use Rattle.player.specs.Once.{endsFollow}
+use Rattle.player.specs.Once.{leavesIt}
 use Rattle.player.specs.Plays.{Play, due, moved, playsTo, reach, reachBefore, startOf, startsBy, startsIn, toldBy, toldTo}
 use Rattle.player.specs.Runs.{Call, World, after, world}
 use Rattle.player.specs.Runs.Call.{draw, play, seek, follow, leave, evict}
@@ -57,7 +57,7 @@ pub data Way (w : World) (c : Call) : World → Type 0 where
       ((k : Kept) → activeAt (w .player .playhead .ms) k ≡ false → p k ≡ false → activeAt (t .ms) k ≡ false) →
       Way w c (world (moved t p (w .player)) (toldTo (w .sink) (map (toldBy f) (kept-by p (w .player .kept)))))
   follows-it : (s : ℕ) (m : Mode) → isOff (modeOf (w .player) s) ≡ true → Way w c (world (inMode s m (w .player)) (w .sink))
-  leaves-it : (s : ℕ) → endsFollow s c w ≡ true → Way w c (world (left s (w .player)) (w .sink))
+  leaves-it : (s : ℕ) → leavesIt s c w ≡ true → Way w c (world (left s (w .player)) (w .sink))
   evicts-some : (a b : ℕ) → Way w c (world (withKept (w .player) (without (arrivedIn a b) (w .player .kept))) (w .sink))
 
 -- the world that is left with an answer

@@ -1,6 +1,6 @@
 -- A run whose plays are made in stops comes to the same.
 use Prim.Native.Nat.{ℕ, _≤_}
-use mathlib.Core.Path.{_≡_, refl, sym, _∙_, ap}
+use mathlib.Core.Path.{_≡_, refl, sym, _∙_, ap, subst}
 use mathlib.Core.List.{List, [], _∷_, _++_, map}
 use Rattle.std.specs.shelf.Lists.{All}
 use Rattle.event.specs.declared.dispatches.Dispatch.{Dispatch}
@@ -9,7 +9,7 @@ use Rattle.event.specs.Times.{latest}
 use Rattle.player.specs.Runs.{Call, New, World, after, runs, world}
 use Rattle.player.specs.Runs.Call.{draw, play, seek, follow, leave, evict}
 use Rattle.player.specs.State.{State, fresh}
-use Rattle.player.specs.Stops.{Agree, Stopped, bareDispatch, bareKept, upTo}
+use Rattle.player.specs.Stops.{Agree, Stopped, StopsChangeNothing, bareDispatch, bareKept, upTo}
 use Rattle.player.specs.Stops.Stopped.{none, alike, stops}
 use Rattle.player.proofs.Bare.{alike-map, bareCall, bareWorld, runs-map}
 use Rattle.player.proofs.Joining.{play-twice}
@@ -38,7 +38,7 @@ begun n k m f w h =
 pub stops-agree : (n k m f : ℕ) (w v : World) → New n k m f w → New n k m f v → (cs ds : List Call) → Stopped cs ds → Agree (runs cs w) (runs ds v)
 stops-agree n k m f w v new-w new-v cs ds r =
     let start : World = world (fresh n k m) (record { told = []; free = f }) in
-    let steady : Steady start = steady-new n k m f start (record { player = refl; told = refl; free = refl }) in
+    let steady : Steady start = steady-new n k m f start (record { few = new-w .few; player = refl; told = refl; free = refl }) in
     let same : bareWorld (runs cs w) ≡ bareWorld (runs ds v) =
     ap (λ x. bareWorld (runs cs x)) (begun n k m f w new-w) ∙ runs-map cs start ∙ stopped-same r start steady ∙ sym (runs-map ds start) ∙ ap (λ x. bareWorld (runs ds x)) (sym (begun n k m f v new-v)) in
     record {
@@ -48,3 +48,12 @@ stops-agree n k m f w v new-w new-v cs ds r =
       used = ap (λ x. x .player .used) same;
       told = ap (λ x. x .sink .told) same;
     }
+
+pub stops-nothing : (n k m f : ℕ) (w : World) → New n k m f w → StopsChangeNothing w
+stops-nothing n k m f w h v g cs ds r =
+    let few : w .player .streams ≡ n = ap (λ p. p .streams) (h .player) in
+    let places : w .player .places ≡ k = ap (λ p. p .places) (h .player) in
+    let ids : w .player .idPlaces ≡ m = ap (λ p. p .idPlaces) (h .player) in
+    let same : New n k m f v = subst (λ x. New x k m f v) few (subst (λ x. New (w .player .streams) x m f v) places
+    (subst (λ x. New (w .player .streams) (w .player .places) x f v) ids (subst (λ x. New (w .player .streams) (w .player .places) (w .player .idPlaces) x v) (h .free) g))) in
+    stops-agree n k m f w v h same cs ds r

@@ -39,7 +39,7 @@ use Rattle.player.specs.Runs.{Call, New, World, after, runs}
 use Rattle.player.specs.Runs.Call.{draw, play, seek, follow, leave, evict}
 use Rattle.player.specs.Seeks.{activeAt, atTime}
 use Rattle.player.specs.Tables.{fails, without}
-use Rattle.player.specs.Tally.{Tallied, answered, evicted, isLine, left, stepped, sums}
+use Rattle.player.specs.Tally.{TallyAddsUp, answered, evictedBy, isLine, leftBy, stepped, sums}
 use Rattle.player.proofs.InOrder.{length-placed}
 
 -- told and kept
@@ -116,7 +116,7 @@ module _ (w : World) (p : Kept → Bool) (f : Kept → Time) where
 
 -- one call
 record Added (c : Call) (w : World) : Type 0 where
-  added : stepped c w + here w ≡ answered drawn.Passed c w + answered drawn.Over c w + answered drawn.Repeat c w + here (after c w) + evicted c w + left c w
+  added : stepped c w + here w ≡ answered drawn.Passed c w + answered drawn.Over c w + answered drawn.Repeat c w + here (after c w) + evictedBy c w + leftBy c w
 
 drawn-added : (es : List Event) (d : Ending) (w : World) → Added (draw (record { records = es; ending = d })) w
 drawn-added [] Clean w = record { added = omega arith }
@@ -161,11 +161,11 @@ call-added (evict a b) w =
 -- all calls of a run
 runs-added : (cs : List Call) (w : World) →
     sums stepped cs w + here w ≡
-    sums (answered drawn.Passed) cs w + sums (answered drawn.Over) cs w + sums (answered drawn.Repeat) cs w + here (runs cs w) + sums evicted cs w + sums left cs w
+    sums (answered drawn.Passed) cs w + sums (answered drawn.Over) cs w + sums (answered drawn.Repeat) cs w + here (runs cs w) + sums evictedBy cs w + sums leftBy cs w
 runs-added [] w = omega arith
 runs-added (c ∷ cs) w = omega (arith, call-added c w .added, runs-added cs (after c w))
 
-pub tallied : (n k m f : ℕ) (w : World) → New n k m f w → (cs : List Call) → Tallied cs w
+pub tallied : (n k m f : ℕ) (w : World) → New n k m f w → TallyAddsUp w
 tallied n k m f w h cs =
     let told-none : length (w .sink .told) ≡ 0 = ap length (h .told) in
     let kept-none : length (w .player .kept) ≡ 0 = ap (λ p. length (p .kept)) (h .player) in

@@ -1,13 +1,13 @@
 -- Lists of calls on one player, with one sink.
 --   Call           one of the six calls with its arguments; a draw looks at what a feed has still to come
 --   World          a player and its sink
---   Answers c      what a call answers: a line, how far it came, a number, or nothing more than that it was done
+--   Answers c      what a call answers: the line that fits a record, how far a play came, a number, or only that it was done
 --   does c w       the answer of a call, and the world that it leaves
 --   after c w      the world that a call leaves
 --   runs cs w      the world after a list of calls, one by one
 --   done a         a call that was not refused
---   New n k m f w  a fresh player of n streams, with k places for events and m for ids, and a sink that was told nothing and has f free places
-use Prim.Native.Nat.{ℕ}
+--   New n k m f w  a fresh player of n streams, at most 32, with k places for events and m for ids, and a sink that was told nothing and has f free places
+use Prim.Native.Nat.{ℕ, _≤_}
 use mathlib.Core.Bool.{Bool, true, false}
 use mathlib.Core.List.{List, [], _∷_}
 use mathlib.Core.Path.{_≡_}
@@ -70,6 +70,7 @@ done (refused n) = false
 done (refusedWith n f) = false
 
 pub record New (n k m f : ℕ) (w : World) : Type 0 where
+  pub few : n ≤ 32
   pub player : w .player ≡ fresh n k m
   pub told : w .sink .told ≡ []
   pub free : w .sink .free ≡ f

@@ -1,10 +1,12 @@
--- Plays made in stops.
---   bareMessage m     a message with its place set aside
---   bareEvent e       an event with its message's place set aside; so a kept event, and a dispatch
---   Same a b          two looks find the same: equal records with message places set aside, both a clean end, or faults of one number
---   Alike c d         one call for another: the call itself, or a draw that finds the same
---   Stopped cs ds     ds is cs with each draw made by one that finds the same, and each play to t not past the latest time made by any plays, none past t, the last to t
---   Agree w v         equal playhead, modes, kept events and used ids, and equal lists told, message places set aside
+-- Runs whose plays are made in stops.
+--   bareMessage m           a message with its place set aside
+--   bareEvent e             an event with its message's place set aside; so bareKept a kept event, and bareDispatch a dispatch
+--   Same a b                two looks find the same: records that are equal with message places set aside, both a clean end, or faults of one number
+--   Alike c d               one call in place of another: the call itself, or a draw that finds the same
+--   upTo t u                a stop at u on the way to t is not past t
+--   Stopped cs ds           ds is cs with each draw in place of one that finds the same, and with any plays, none past t, before a play to t that is not past the latest time
+--   Agree w v               equal playheads, modes and used ids; equal kept events and lists told, message places set aside
+--   StopsChangeNothing w    every run from w and the run in stops from a world that began as w agree
 use Prim.Native.Nat.{ℕ, _≤_}
 use mathlib.Core.List.{List, [], _∷_, _++_, map}
 use mathlib.Core.Path.{_≡_}
@@ -20,7 +22,7 @@ use Rattle.event.specs.Feeds.{Coming, seen}
 use Rattle.event.specs.Numbers.{defectNumber}
 use Rattle.event.specs.Times.{latest}
 use Rattle.player.specs.declared.elements.Kept.{Kept}
-use Rattle.player.specs.Runs.{Call, World}
+use Rattle.player.specs.Runs.{Call, New, World, runs}
 use Rattle.player.specs.Runs.Call.{draw, play, seek, follow, leave, evict}
 
 abbrev pub bareMessage : Message → Message
@@ -58,3 +60,8 @@ pub record Agree (w v : World) : Type 0 where
   pub kept : map bareKept (w .player .kept) ≡ map bareKept (v .player .kept)
   pub used : w .player .used ≡ v .player .used
   pub told : map bareDispatch (w .sink .told) ≡ map bareDispatch (v .sink .told)
+
+abbrev pub StopsChangeNothing : World → Type 0
+StopsChangeNothing w =
+    (v : World) → New (w .player .streams) (w .player .places) (w .player .idPlaces) (w .sink .free) v →
+    (cs ds : List Call) → Stopped cs ds → Agree (runs cs w) (runs ds v)

@@ -1,10 +1,14 @@
--- What becomes of the records that are drawn.
---   sums f cs w    what f gives for each call of a run, at the world that the call meets, added up
---   stepped c w    how many records the feed of a draw has less after it
---   line d         a number for each line that a draw can answer
---   answered d c w 1 for a draw that answers the line d
---   removed a      the number that an evict or a leave answers; 0 where it was refused
---   Tallied cs w   every record that a run's draws stepped was passed, over, a repeat, dispatched, evicted or left, or it is still kept
+-- What becomes of the records that a run draws.
+--   sums f cs w       what f gives for each call of a run, at the world that the call meets, added up
+--   stepped c w       how many records fewer the feed of a draw has to come after it
+--   answered d c w    1 for a draw that answers d
+--   removed a         the number that an evict or a leave answers; 0 where it was refused
+--   drawn cs w        the records that the draws of a run stepped
+--   passed cs w       the draws that answered passed; so over, and repeats
+--   dispatched cs w   the length of the sink's list after the run
+--   kept cs w         the number of kept events after the run
+--   evicted cs w      the answers of the evicts that were not refused, added up; so left, of the leaves
+--   TallyAddsUp w     in every run from w, each record that was drawn is counted once
 use Prim.Native.Nat.{ℕ, _+_, _-_}
 use mathlib.Core.Bool.{cond}
 use mathlib.Core.List.{List, [], _∷_}
@@ -14,7 +18,7 @@ use lib.ListN.{length}
 use Rattle.event.specs.Numbers.{Answer}
 use Rattle.event.specs.Numbers.Answer.{did, refused, refusedWith}
 use Rattle.player.specs.declared.players.Drawn.{Drawn}
-use Rattle.player.specs.declared.players.Drawn.the-variants as drawn
+use Rattle.player.specs.declared.players.Drawn.the-variants.{End, Passed, Dispatched, Over, Repeat, Kept}
 use Rattle.player.specs.Draws.{draws}
 use Rattle.player.specs.Runs.{Call, World, after, does, runs}
 use Rattle.player.specs.Runs.Call.{draw, play, seek, follow, leave, evict}
@@ -31,13 +35,14 @@ stepped (follow s m) w = 0
 stepped (leave s) w = 0
 stepped (evict a b) w = 0
 
+-- a number for each answer, to tell them apart
 abbrev pub line : Drawn → ℕ
-line drawn.End = 0
-line drawn.Passed = 1
-line drawn.Dispatched = 2
-line drawn.Over = 3
-line drawn.Repeat = 4
-line drawn.Kept = 5
+line End = 0
+line Passed = 1
+line Dispatched = 2
+line Over = 3
+line Repeat = 4
+line Kept = 5
 
 abbrev pub isLine : Drawn → Answer Drawn → ℕ
 isLine d (did e) = cond (eqb (line d) (line e)) 1 0
@@ -57,25 +62,45 @@ removed (did n) = n
 removed (refused n) = 0
 removed (refusedWith n f) = 0
 
-abbrev pub evicted : Call → World → ℕ
-evicted (draw c) w = 0
-evicted (play t) w = 0
-evicted (seek t) w = 0
-evicted (follow s m) w = 0
-evicted (leave s) w = 0
-evicted (evict a b) w = removed (does (evict a b) w .0)
+abbrev pub evictedBy : Call → World → ℕ
+evictedBy (draw c) w = 0
+evictedBy (play t) w = 0
+evictedBy (seek t) w = 0
+evictedBy (follow s m) w = 0
+evictedBy (leave s) w = 0
+evictedBy (evict a b) w = removed (does (evict a b) w .0)
 
-abbrev pub left : Call → World → ℕ
-left (draw c) w = 0
-left (play t) w = 0
-left (seek t) w = 0
-left (follow s m) w = 0
-left (leave s) w = removed (does (leave s) w .0)
-left (evict a b) w = 0
+abbrev pub leftBy : Call → World → ℕ
+leftBy (draw c) w = 0
+leftBy (play t) w = 0
+leftBy (seek t) w = 0
+leftBy (follow s m) w = 0
+leftBy (leave s) w = removed (does (leave s) w .0)
+leftBy (evict a b) w = 0
 
-abbrev pub Tallied : List Call → World → Type 0
-Tallied cs w =
-    sums stepped cs w ≡
-    sums (answered drawn.Passed) cs w + sums (answered drawn.Over) cs w + sums (answered drawn.Repeat) cs w
-    + length (runs cs w .sink .told) + length (runs cs w .player .kept)
-    + sums evicted cs w + sums left cs w
+abbrev pub drawn : List Call → World → ℕ
+drawn = sums stepped
+
+abbrev pub passed : List Call → World → ℕ
+passed = sums (answered Passed)
+
+abbrev pub over : List Call → World → ℕ
+over = sums (answered Over)
+
+abbrev pub repeats : List Call → World → ℕ
+repeats = sums (answered Repeat)
+
+abbrev pub dispatched : List Call → World → ℕ
+dispatched cs w = length (runs cs w .sink .told)
+
+abbrev pub kept : List Call → World → ℕ
+kept cs w = length (runs cs w .player .kept)
+
+abbrev pub evicted : List Call → World → ℕ
+evicted = sums evictedBy
+
+abbrev pub left : List Call → World → ℕ
+left = sums leftBy
+
+abbrev pub TallyAddsUp : World → Type 0
+TallyAddsUp w = (cs : List Call) → drawn cs w ≡ passed cs w + over cs w + repeats cs w + dispatched cs w + kept cs w + evicted cs w + left cs w

@@ -1,19 +1,15 @@
 // What holds of every list of calls.
-ghost use mathlib.Core.Path.{_≡_};
-ghost use mathlib.Core.List.{List};
-ghost use Prim.Native.Nat.{ℕ, _≤_};
-ghost use Rattle.player.specs.Runs.{Call, New, World, runs};
-ghost use Rattle.player.specs.Once.{Followed, Resting};
-ghost use Rattle.player.specs.Stops.{Agree, Stopped};
-ghost use Rattle.player.specs.Tally.{Tallied};
+ghost use Prim.Native.Nat.{ℕ};
+ghost use Rattle.player.specs.Runs.{New, World};
+ghost use Rattle.player.specs.Once.{NoneKeptActive, OnceWhileFollowed};
+ghost use Rattle.player.specs.Stops.{StopsChangeNothing};
+ghost use Rattle.player.specs.Tally.{TallyAddsUp};
 
-// From a fresh player and an empty sink: stops change nothing, a stream that stays followed on start is told each id at most once and while active,
-// nothing that is kept is active at the playhead, and the counts add up.
 pub fn runs_hold() -> u8
-    ensures stops_change_nothing { λ _. ⌜ ((n k m f : ℕ) (w v : World) → New n k m f w → New n k m f v → (cs ds : List Call) → Stopped cs ds → Agree (runs cs w) (runs ds v)) ⌝ }
-    ensures told_at_most_once_while_followed { λ _. ⌜ ((n k m f : ℕ) (w : World) → n ≤ 32 → New n k m f w → Followed w) ⌝ }
-    ensures none_kept_active { λ _. ⌜ ((n k m f : ℕ) (w : World) → New n k m f w → (cs : List Call) → Resting (runs cs w)) ⌝ }
-    ensures tally_adds_up { λ _. ⌜ ((n k m f : ℕ) (w : World) → New n k m f w → (cs : List Call) → Tallied cs w) ⌝ }
+    ensures stops_change_nothing { λ _. ⌜ ((n k m f : ℕ) (w : World) → New n k m f w → StopsChangeNothing w) ⌝ }
+    ensures told_at_most_once_while_followed { λ _. ⌜ ((n k m f : ℕ) (w : World) → New n k m f w → OnceWhileFollowed w) ⌝ }
+    ensures none_kept_active { λ _. ⌜ ((n k m f : ℕ) (w : World) → New n k m f w → NoneKeptActive w) ⌝ }
+    ensures tally_adds_up { λ _. ⌜ ((n k m f : ℕ) (w : World) → New n k m f w → TallyAddsUp w) ⌝ }
 {
     0
 }
