@@ -35,7 +35,7 @@ use Rattle.player.specs.Follows.{isOff, modeOf}
 use Rattle.player.specs.Leaves.{keptIn}
 use Rattle.player.specs.Plays.{due, markedAll, moved, playsTo, reach, reachBefore, startOf, startsIn, toldBy, toldTo}
 use Rattle.player.specs.Runs.{Call, World, after, runs, world}
-use Rattle.player.specs.Runs.Call.{draw, play, seek, follow, leave, evict}
+use Rattle.player.specs.Runs.CallOn.{draw, play, seek, follow, leave, evict}
 use Rattle.player.specs.Seeks.{activeAt, atTime}
 use Rattle.player.specs.State.{State, ids}
 use Rattle.player.specs.Stops.{Alike, Same, bareDispatch, bareEvent, bareKept}

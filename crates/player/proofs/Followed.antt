@@ -27,7 +27,7 @@ use Rattle.player.specs.Leaves.{usedIn}
 use Rattle.player.specs.Once.{Once, OnceWhileFollowed, leavesIt, since, staysFollowed, tellsId, tellsOf, whileActive}
 use Rattle.player.specs.Plays.{markedAll, toldBy}
 use Rattle.player.specs.Runs.{Call, New, World, after, does, done, runs}
-use Rattle.player.specs.Runs.Call.{draw, play, seek, follow, leave, evict}
+use Rattle.player.specs.Runs.CallOn.{draw, play, seek, follow, leave, evict}
 use Rattle.player.specs.Seeks.{activeAt}
 use Rattle.player.specs.State.{State}
 use Rattle.player.specs.Tables.{without}

@@ -20,7 +20,7 @@ use Rattle.player.specs.Draws.{marked}
 use Rattle.player.specs.Elements.{earlier, starts}
 use Rattle.player.specs.Plays.{atStart, due, markedAll, moved, plays, playsTo, reach, reachBefore, startsBy, startsIn, toldTo}
 use Rattle.player.specs.Runs.{Call, World, after, world}
-use Rattle.player.specs.Runs.Call.{draw, play, seek, follow, leave, evict}
+use Rattle.player.specs.Runs.CallOn.{draw, play, seek, follow, leave, evict}
 use Rattle.player.specs.Tables.{fails, none, sorted, without}
 use Rattle.player.proofs.Outcomes.{reach-within}
 use Rattle.player.proofs.Playing.{plays-back, plays-on}

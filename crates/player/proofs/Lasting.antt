@@ -10,6 +10,7 @@ use Rattle.std.specs.shelf.Lists.{kept-by}
 use Rattle.std.proofs.shelf.Lists.{length-set}
 use Rattle.std.proofs.shelf.Tests.{cases-bool, not-true}
 use Rattle.event.specs.declared.times.Time.{Time}
+use Rattle.event.specs.Sinks.{Held}
 use Rattle.player.specs.declared.elements.Kept.{Kept}
 use Rattle.player.specs.declared.elements.UsedId.{UsedId}
 use Rattle.player.specs.Draws.{known, marked}
@@ -18,9 +19,9 @@ use Rattle.player.specs.Evicts.{arrivedIn}
 use Rattle.player.specs.Leaves.{keptIn, usedIn}
 use Rattle.player.specs.Once.{NoneKeptActive, noneActive}
 use Rattle.player.specs.Plays.{markedAll, moved}
-use Rattle.player.specs.Runs.{Call, New, World, after, runs}
+use Rattle.player.specs.Runs.{Call, New, World, after, runs, world}
 use Rattle.player.specs.Seeks.{activeAt}
-use Rattle.player.specs.State.{State}
+use Rattle.player.specs.State.{State, fresh}
 use Rattle.player.specs.Tables.{fails, none, placed, sorted, without}
 use Rattle.player.proofs.Counting.{count, count-apart, kept-as, marks-all, marks-one, none-known, none-of, used-as}
 use Rattle.player.proofs.InOrder.{none-placed}
@@ -101,6 +102,9 @@ steady-after c w h = steady-way h (way c w)
 pub steady-runs : (cs : List Call) (w : World) → Steady w → Steady (runs cs w)
 steady-runs [] w h = h
 steady-runs (c ∷ cs) w h = steady-runs cs (after c w) (steady-after c w h)
+
+pub new-world : (n k m : ℕ) (p : State) (h : Held) → n ≤ 32 → p ≡ fresh n k m → h .told ≡ [] → New n k m (h .free) (world p h)
+new-world n k m p h few e none = record { few = few; player = e; told = none; free = refl }
 
 pub steady-new : (n k m f : ℕ) (w : World) → New n k m f w → Steady w
 steady-new n k m f w h =

@@ -38,7 +38,7 @@ use Rattle.player.specs.Leaves.{left}
 use Rattle.player.specs.Once.{leavesIt}
 use Rattle.player.specs.Plays.{Play, due, moved, playsTo, reach, reachBefore, startOf, startsBy, startsIn, toldBy, toldTo}
 use Rattle.player.specs.Runs.{Call, World, after, world}
-use Rattle.player.specs.Runs.Call.{draw, play, seek, follow, leave, evict}
+use Rattle.player.specs.Runs.CallOn.{draw, play, seek, follow, leave, evict}
 use Rattle.player.specs.Seeks.{Seek, activeAt, atTime, seeksTo}
 use Rattle.player.specs.State.{State}
 use Rattle.player.specs.Tables.{placed, without}

@@ -7,7 +7,7 @@ use Rattle.event.specs.declared.dispatches.Dispatch.{Dispatch}
 use Rattle.event.specs.Sinks.{Held}
 use Rattle.event.specs.Times.{latest}
 use Rattle.player.specs.Runs.{Call, New, World, after, runs, world}
-use Rattle.player.specs.Runs.Call.{draw, play, seek, follow, leave, evict}
+use Rattle.player.specs.Runs.CallOn.{draw, play, seek, follow, leave, evict}
 use Rattle.player.specs.State.{State, fresh}
 use Rattle.player.specs.Stops.{Agree, Stopped, StopsChangeNothing, bareDispatch, bareKept, upTo}
 use Rattle.player.specs.Stops.Stopped.{none, alike, stops}

@@ -36,7 +36,7 @@ use Rattle.player.specs.Follows.{isOff, modeOf}
 use Rattle.player.specs.Leaves.{keptIn}
 use Rattle.player.specs.Plays.{reach, startOf, startsIn, toldBy}
 use Rattle.player.specs.Runs.{Call, New, World, after, runs}
-use Rattle.player.specs.Runs.Call.{draw, play, seek, follow, leave, evict}
+use Rattle.player.specs.Runs.CallOn.{draw, play, seek, follow, leave, evict}
 use Rattle.player.specs.Seeks.{activeAt, atTime}
 use Rattle.player.specs.Tables.{fails, without}
 use Rattle.player.specs.Tally.{TallyAddsUp, answered, evictedBy, isLine, leftBy, stepped, sums}

@@ -1,5 +1,6 @@
 -- Lists of calls on one player, with one sink.
---   Call           one of the six calls with its arguments; a draw looks at what a feed has still to come
+--   CallOn X       one of the six calls with its arguments; a draw looks at an X
+--   Call           a call whose draw looks at what a feed has still to come
 --   World          a player and its sink
 --   Answers c      what a call answers: the line that fits a record, how far a play came, a number, or only that it was done
 --   does c w       the answer of a call, and the world that it leaves
@@ -26,13 +27,16 @@ use Rattle.player.specs.Plays.{plays}
 use Rattle.player.specs.Seeks.{seeks}
 use Rattle.player.specs.State.{State, fresh}
 
-pub data Call : Type 0 where
-  draw : Coming → Call
-  play : ℕ → Call
-  seek : ℕ → Call
-  follow : ℕ → Mode → Call
-  leave : ℕ → Call
-  evict : ℕ → ℕ → Call
+pub data CallOn (X : Type 0) : Type 0 where
+  draw : X → CallOn X
+  play : ℕ → CallOn X
+  seek : ℕ → CallOn X
+  follow : ℕ → Mode → CallOn X
+  leave : ℕ → CallOn X
+  evict : ℕ → ℕ → CallOn X
+
+abbrev pub Call : Type 0
+Call = CallOn Coming
 
 pub record World : Type 0 where
   pub player : State

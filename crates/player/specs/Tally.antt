@@ -21,7 +21,7 @@ use Rattle.player.specs.declared.players.Drawn.{Drawn}
 use Rattle.player.specs.declared.players.Drawn.the-variants.{End, Passed, Dispatched, Over, Repeat, Kept}
 use Rattle.player.specs.Draws.{draws}
 use Rattle.player.specs.Runs.{Call, World, after, does, runs}
-use Rattle.player.specs.Runs.Call.{draw, play, seek, follow, leave, evict}
+use Rattle.player.specs.Runs.CallOn.{draw, play, seek, follow, leave, evict}
 
 abbrev pub sums : (Call → World → ℕ) → List Call → World → ℕ
 sums f [] w = 0
