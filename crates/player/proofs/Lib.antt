@@ -15,3 +15,4 @@ pub mod Followed
 pub mod Joining
 pub mod Bare
 pub mod Stopping
+pub mod Chains

@@ -13,3 +13,4 @@ pub mod State
 pub mod Stops
 pub mod Tables
 pub mod Tally
+pub mod Values

@@ -1,15 +1,15 @@
-// What holds of every list of calls.
-ghost use Prim.Native.Nat.{ℕ};
-ghost use Rattle.player.specs.Runs.{New, World};
-ghost use Rattle.player.specs.Once.{NoneKeptActive, OnceWhileFollowed};
-ghost use Rattle.player.specs.Stops.{StopsChangeNothing};
-ghost use Rattle.player.specs.Tally.{TallyAddsUp};
+// What holds of every list of calls, whatever the feeds and the sinks are.
+ghost use Rattle.player.specs.Values.{StopsChangeNoValue, ValuesHold};
+use event::Feed;
+use event::Sink;
 
-pub fn runs_hold() -> u8
-    ensures stops_change_nothing { λ _. ⌜ ((n k m f : ℕ) (w : World) → New n k m f w → StopsChangeNothing w) ⌝ }
-    ensures told_at_most_once_while_followed { λ _. ⌜ ((n k m f : ℕ) (w : World) → New n k m f w → OnceWhileFollowed w) ⌝ }
-    ensures none_kept_active { λ _. ⌜ ((n k m f : ℕ) (w : World) → New n k m f w → NoneKeptActive w) ⌝ }
-    ensures tally_adds_up { λ _. ⌜ ((n k m f : ℕ) (w : World) → New n k m f w → TallyAddsUp w) ⌝ }
+// For two players, the one with feeds F and a sink S, the other with feeds G and a sink T: plays made in stops change nothing; and in either, a
+// stream that stays followed on start is told each id at most once and its events while active, no kept event is active at the playhead, and each
+// record drawn is counted once.
+pub fn runs_hold<F: Feed, G: Feed, S: Sink, T: Sink>() -> u8
+    ensures stops_change_nothing { λ _. ⌜ StopsChangeNoValue (F·Feed .coming) (G·Feed .coming) (S·Sink .held) (T·Sink .held) ⌝ }
+    ensures first_holds { λ _. ⌜ ValuesHold (F·Feed .coming) (S·Sink .held) ⌝ }
+    ensures second_holds { λ _. ⌜ ValuesHold (G·Feed .coming) (T·Sink .held) ⌝ }
 {
     0
 }

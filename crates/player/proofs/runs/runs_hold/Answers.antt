@@ -1,13 +1,9 @@
-use Rattle.player.proofs.Followed.{told-once}
-use Rattle.player.proofs.Lasting.{none-active}
-use Rattle.player.proofs.Stopping.{stops-nothing}
-use Rattle.player.proofs.Tallying.{tallied}
+use Rattle.player.proofs.Chains.{stops-no-value, values-hold}
 use Rattle.player.proofs.runs.runs_hold.Needs as need
 
 pub returns : need.returns
-returns c = record {
-  stops-change-nothing = stops-nothing;
-  told-at-most-once-while-followed = told-once;
-  none-kept-active = none-active;
-  tally-adds-up = tallied;
+returns g c = record {
+  stops-change-nothing = stops-no-value (g .F·Feed .coming) (g .G·Feed .coming) (g .S·Sink .held) (g .T·Sink .held);
+  first-holds = values-hold (g .F·Feed .coming) (g .S·Sink .held);
+  second-holds = values-hold (g .G·Feed .coming) (g .T·Sink .held);
 }
