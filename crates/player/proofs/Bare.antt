@@ -1,10 +1,9 @@
 -- Message places set aside: no call looks at them.
 use Prim.Native.Nat.{ℕ, zero, suc, _+_}
 use mathlib.Core.Path.{_≡_, refl, sym, _∙_, ap}
-use mathlib.Core.Bool.{Bool, true, false, cond, not, _&&_, _||_}
-use mathlib.Core.List.{List, [], _∷_, _++_, map}
+use mathlib.Core.Bool.{Bool, not, _&&_}
+use mathlib.Core.List.{List, [], _∷_, map}
 use mathlib.Core.Logic.{inl, inr}
-use native.Mathlib.Omega.{arith}
 use lib.Dec.{leb, ltb}
 use lib.ListN.{drop, length}
 use Rattle.std.specs.shelf.Lists.{kept-by}
@@ -23,8 +22,8 @@ use Rattle.event.specs.declared.modes.Trigger.{Trigger}
 use Rattle.event.specs.declared.modes.Trigger.the-variants.{Receive, Start}
 use Rattle.event.specs.declared.times.Time.{Time}
 use Rattle.event.specs.Feeds.{Coming, seen}
-use Rattle.event.specs.Sinks.{Held, more}
-use Rattle.event.specs.Spans.{active, ended}
+use Rattle.event.specs.Sinks.{Held}
+use Rattle.event.specs.Spans.{ended}
 use Rattle.event.specs.Times.{latest, time}
 use Rattle.player.specs.declared.elements.Kept.{Kept}
 use Rattle.player.specs.declared.elements.UsedId.{UsedId}
@@ -33,7 +32,7 @@ use Rattle.player.specs.Elements.{dispatched, earlier, hasId, keptOf, named, s
 use Rattle.player.specs.Evicts.{arrivedIn}
 use Rattle.player.specs.Follows.{isOff, modeOf}
 use Rattle.player.specs.Leaves.{keptIn}
-use Rattle.player.specs.Plays.{due, markedAll, moved, playsTo, reach, reachBefore, startOf, startsIn, toldBy, toldTo}
+use Rattle.player.specs.Plays.{due, markedAll, moved, reach, reachBefore, startOf, startsIn, toldBy, toldTo}
 use Rattle.player.specs.Runs.{Call, World, after, runs, world}
 use Rattle.player.specs.Runs.CallOn.{draw, play, seek, follow, leave, evict}
 use Rattle.player.specs.Seeks.{activeAt, atTime}
@@ -41,7 +40,7 @@ use Rattle.player.specs.State.{State, ids}
 use Rattle.player.specs.Stops.{Alike, Same, bareDispatch, bareEvent, bareKept}
 use Rattle.player.specs.Stops.Alike.{itself, drawing}
 use Rattle.player.specs.Stops.Same.{records, ends, faults}
-use Rattle.player.specs.Tables.{any, fails, none, placed, without}
+use Rattle.player.specs.Tables.{fails, none, placed, without}
 
 abbrev pub bareState : State → State
 bareState w = record { streams = w .streams; playhead = w .playhead; modes = w .modes; kept = map bareKept (w .kept); used = w .used; places = w .places; idPlaces = w .idPlaces }

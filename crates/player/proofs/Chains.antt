@@ -1,18 +1,16 @@
 -- A chain of calls on values comes to what the calls mean.
-use Prim.Native.Nat.{ℕ, _+_}
 use mathlib.Core.Path.{_≡_, refl, sym, _∙_, ap, subst}
 use mathlib.Core.Bool.{true}
-use mathlib.Core.List.{List, [], _∷_, map}
+use mathlib.Core.List.{List, map}
 use native.Mathlib.Omega.{arith}
-use lib.ListN.{drop, length}
+use lib.ListN.{length}
 use Rattle.event.specs.declared.modes.Mode.the-variants.{OnStart}
 use Rattle.event.specs.Feeds.{Coming}
 use Rattle.event.specs.Sinks.{Held}
 use Rattle.player.specs.declared.players.Player.{Player}
 use Rattle.player.specs.Once.{Once, noneActive, since, staysFollowed}
-use Rattle.player.specs.Runs.{Call, CallOn, New, World, after, does, done, runs}
-use Rattle.player.specs.Runs.CallOn.{draw, play, seek, follow, leave, evict}
-use Rattle.player.specs.State.{state}
+use Rattle.player.specs.Runs.{Call, CallOn, World, after, does, done, runs}
+use Rattle.player.specs.Runs.CallOn.{follow}
 use Rattle.player.specs.Stops.{Agree}
 use Rattle.player.specs.Values.{Chain, StopsChangeNoValue, ValuesHold, meant, seenAs}
 use Rattle.player.specs.Values.Chain.{ends, then}

@@ -1,14 +1,14 @@
 -- How often an id is used, kept and told.
-use Prim.Native.Nat.{ℕ, zero, suc, _+_, _≤_}
-use mathlib.Core.Path.{_≡_, refl, sym, _∙_, ap}
+use Prim.Native.Nat.{ℕ, suc, _+_}
+use mathlib.Core.Path.{_≡_, refl, _∙_, ap}
 use mathlib.Core.Bool.{Bool, true, false, cond, not, _&&_, _||_}
 use mathlib.Core.List.{List, [], _∷_, map}
 use mathlib.Core.Logic.{inl, inr}
 use native.Mathlib.Omega.{arith}
 use lib.Dec.{eqb}
 use lib.ListN.{length}
-use Rattle.std.specs.shelf.Lists.{All, kept-by}
-use Rattle.std.proofs.shelf.Tests.{and-parts, and-from, cases-bool, eqb-true, not-false, not-true, not-from-false, or-parts, false≢true}
+use Rattle.std.specs.shelf.Lists.{kept-by}
+use Rattle.std.proofs.shelf.Tests.{and-parts, cases-bool, eqb-true, not-false, not-true, or-parts, false≢true}
 use Rattle.std.proofs.shelf.Ways.{tells}
 use Rattle.std.specs.declared.option.Option.{Option}
 use Rattle.std.specs.declared.option.Option.the-variants.{Some, None}
@@ -20,7 +20,7 @@ use Rattle.player.specs.Elements.{idBefore, named, sameId}
 use Rattle.player.specs.Once.{tellsId}
 use Rattle.player.specs.Plays.{markedAll, toldBy}
 use Rattle.player.specs.State.{State}
-use Rattle.player.specs.Tables.{any, fails, none, tied, without}
+use Rattle.player.specs.Tables.{any, none, tied, without}
 use Rattle.player.proofs.Soundness.{count-placed}
 
 -- how many elements pass

@@ -1,7 +1,7 @@
 -- What is told of a stream while it stays followed on start.
-use Prim.Native.Nat.{ℕ, suc, _+_, _≤_, _<_}
+use Prim.Native.Nat.{ℕ, _+_, _≤_, _<_}
 use mathlib.Core.Path.{_≡_, refl, sym, _∙_, ap, subst}
-use mathlib.Core.Bool.{Bool, true, false, cond, not, _&&_}
+use mathlib.Core.Bool.{Bool, true, false, cond, not}
 use mathlib.Core.List.{List, [], _∷_, _++_, map}
 use mathlib.Core.Logic.{inl, inr}
 use native.Mathlib.Omega.{arith}
@@ -10,29 +10,26 @@ use lib.ListN.{drop, getD, length, set}
 use Rattle.std.specs.shelf.Lists.{All, kept-by}
 use Rattle.std.proofs.shelf.Elements.{all-append, kept-by-append}
 use Rattle.std.proofs.shelf.Lists.{append-assoc, append-nil, drop-at, getD-set-other, getD-set-same, length-append}
-use Rattle.std.proofs.shelf.Tests.{and-from, and-parts, both-ways, cases-bool, cases-eq, eqb-true, leb-false, lt-ltb, ne-eqb, not-true, true≢false, false≢true}
+use Rattle.std.proofs.shelf.Tests.{and-parts, both-ways, cases-bool, leb-false, lt-ltb, ne-eqb, not-true, false≢true}
 use Rattle.std.proofs.shelf.Ways.{tells}
 use Rattle.event.specs.declared.dispatches.Dispatch.{Dispatch}
 use Rattle.event.specs.declared.modes.Mode.{Mode}
 use Rattle.event.specs.declared.modes.Mode.the-variants.{Off, OnReceive, OnStart}
 use Rattle.event.specs.declared.modes.Trigger.the-variants.{Receive, Start}
 use Rattle.event.specs.declared.times.Time.{Time}
-use Rattle.event.specs.Sinks.{Held, more}
 use Rattle.player.specs.declared.elements.Kept.{Kept}
 use Rattle.player.specs.declared.elements.UsedId.{UsedId}
 use Rattle.player.specs.Elements.{dispatched, keptOf}
-use Rattle.player.specs.Draws.{marked}
 use Rattle.player.specs.Follows.{inMode, isOff, modeOf}
 use Rattle.player.specs.Leaves.{usedIn}
 use Rattle.player.specs.Once.{Once, OnceWhileFollowed, leavesIt, since, staysFollowed, tellsId, tellsOf, whileActive}
-use Rattle.player.specs.Plays.{markedAll, toldBy}
+use Rattle.player.specs.Plays.{toldBy}
 use Rattle.player.specs.Runs.{Call, New, World, after, does, done, runs}
-use Rattle.player.specs.Runs.CallOn.{draw, play, seek, follow, leave, evict}
+use Rattle.player.specs.Runs.CallOn.{follow}
 use Rattle.player.specs.Seeks.{activeAt}
 use Rattle.player.specs.State.{State}
-use Rattle.player.specs.Tables.{without}
 use Rattle.player.proofs.Counting.{count, count-unhurt, kept-as, marks-all, marks-one, tells-all, used-as}
-use Rattle.player.proofs.Lasting.{Moded, Steady, moded-after, moded-new, moded-runs, steady-after, steady-new, steady-runs}
+use Rattle.player.proofs.Lasting.{Moded, Steady, moded-new, moded-runs, steady-after, steady-new, steady-runs}
 use Rattle.player.proofs.Outcomes.{Way, way}
 use Rattle.player.proofs.Outcomes.Way.{stays, tells-at-once, tells-now, keeps-it, moves, follows-it, leaves-it, evicts-some}
 

@@ -1,15 +1,14 @@
 -- Two plays, one after the other, are one play.
-use Prim.Native.Nat.{ℕ, zero, suc, _+_, _-_, _≤_, _<_}
+use Prim.Native.Nat.{ℕ, zero, suc, _-_, _≤_, _<_}
 use mathlib.Core.Path.{_≡_, refl, sym, _∙_, ap}
-use mathlib.Core.Bool.{Bool, true, false, cond, not, _&&_}
+use mathlib.Core.Bool.{Bool, true, false, not, _&&_}
 use mathlib.Core.List.{List, [], _∷_, _++_, map}
 use mathlib.Core.Logic.{inl, inr}
 use native.Mathlib.Omega.{arith}
-use lib.Dec.{ltb}
 use lib.ListN.{drop, length}
 use Rattle.std.specs.shelf.Lists.{kept-by}
 use Rattle.std.proofs.shelf.Lists.{append-assoc, length-append, length-map, map-append}
-use Rattle.std.proofs.shelf.Tests.{and-parts, cases-bool, cases-lt, le-ltb, lt-ltb, not-true}
+use Rattle.std.proofs.shelf.Tests.{and-parts, cases-bool, cases-lt, not-true}
 use Rattle.std.proofs.shelf.Ways.{tells}
 use Rattle.event.specs.declared.dispatches.Dispatch.{Dispatch}
 use Rattle.event.specs.Times.{latest, time}
@@ -17,10 +16,10 @@ use Rattle.event.proofs.Clock.{ms-time}
 use Rattle.player.specs.declared.elements.Kept.{Kept}
 use Rattle.player.specs.declared.elements.UsedId.{UsedId}
 use Rattle.player.specs.Draws.{marked}
-use Rattle.player.specs.Elements.{earlier, starts}
-use Rattle.player.specs.Plays.{atStart, due, markedAll, moved, plays, playsTo, reach, reachBefore, startsBy, startsIn, toldTo}
-use Rattle.player.specs.Runs.{Call, World, after, world}
-use Rattle.player.specs.Runs.CallOn.{draw, play, seek, follow, leave, evict}
+use Rattle.player.specs.Elements.{earlier}
+use Rattle.player.specs.Plays.{atStart, due, markedAll, playsTo, reach, reachBefore, startsBy, startsIn}
+use Rattle.player.specs.Runs.{World, after, world}
+use Rattle.player.specs.Runs.CallOn.{play}
 use Rattle.player.specs.Tables.{fails, none, sorted, without}
 use Rattle.player.proofs.Outcomes.{reach-within}
 use Rattle.player.proofs.Playing.{plays-back, plays-on}

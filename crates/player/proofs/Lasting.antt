@@ -1,11 +1,11 @@
 -- What holds after every call, where it held before.
 use Prim.Native.Nat.{ℕ, _+_, _≤_}
-use mathlib.Core.Path.{_≡_, refl, sym, _∙_, ap, subst}
-use mathlib.Core.Bool.{Bool, true, false, cond, not}
+use mathlib.Core.Path.{_≡_, refl, _∙_, ap}
+use mathlib.Core.Bool.{Bool, true, false, cond}
 use mathlib.Core.List.{List, [], _∷_}
 use mathlib.Core.Logic.{inl, inr}
 use native.Mathlib.Omega.{arith}
-use lib.ListN.{length, set}
+use lib.ListN.{length}
 use Rattle.std.specs.shelf.Lists.{kept-by}
 use Rattle.std.proofs.shelf.Lists.{length-set}
 use Rattle.std.proofs.shelf.Tests.{cases-bool, not-true}
@@ -18,7 +18,7 @@ use Rattle.player.specs.Elements.{earlier}
 use Rattle.player.specs.Evicts.{arrivedIn}
 use Rattle.player.specs.Leaves.{keptIn, usedIn}
 use Rattle.player.specs.Once.{NoneKeptActive, noneActive}
-use Rattle.player.specs.Plays.{markedAll, moved}
+use Rattle.player.specs.Plays.{moved}
 use Rattle.player.specs.Runs.{Call, New, World, after, runs, world}
 use Rattle.player.specs.Seeks.{activeAt}
 use Rattle.player.specs.State.{State, fresh}

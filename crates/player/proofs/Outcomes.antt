@@ -1,11 +1,11 @@
 -- What each call can do to a player and its sink.
-use Prim.Native.Nat.{ℕ, _+_, _≤_, _<_}
-use mathlib.Core.Path.{_≡_, refl, sym, _∙_, ap}
+use Prim.Native.Nat.{ℕ, _≤_, _<_}
+use mathlib.Core.Path.{_≡_, refl, _∙_, ap}
 use mathlib.Core.Bool.{Bool, true, false, cond, not, _&&_}
 use mathlib.Core.List.{List, [], _∷_, map}
 use mathlib.Core.Logic.{inl, inr}
 use native.Mathlib.Omega.{arith}
-use lib.Dec.{eqb, leb, ltb}
+use lib.Dec.{leb, ltb}
 use lib.ListN.{length, drop}
 use Rattle.std.specs.shelf.Lists.{All, kept-by}
 use Rattle.std.proofs.shelf.Elements.{all-drop, kept-by-passes}
@@ -20,7 +20,6 @@ use Rattle.event.specs.declared.feeds.Look.the-variants.{Record, Ended}
 use Rattle.event.specs.declared.modes.Mode.{Mode}
 use Rattle.event.specs.declared.modes.Mode.the-variants.{Off, OnReceive, OnStart}
 use Rattle.event.specs.declared.modes.Trigger.the-variants.{Receive, Start}
-use Rattle.event.specs.declared.spans.Span.{Span}
 use Rattle.event.specs.declared.times.Time.{Time}
 use Rattle.event.specs.Feeds.{Coming, seen}
 use Rattle.event.specs.Numbers.Answer.{did}
@@ -30,16 +29,16 @@ use Rattle.event.specs.Times.{latest, time}
 use Rattle.event.proofs.Clock.{ms-time}
 use Rattle.player.specs.declared.elements.Kept.{Kept}
 use Rattle.player.specs.declared.players.Drawn.the-variants as drawn
-use Rattle.player.specs.Draws.{Outcome, drawsAt, inModeOf, keeps, known, marked, noIdPlace, onStart, receivesIn, telling, tellsNow, withKept, withUsed}
+use Rattle.player.specs.Draws.{Outcome, drawsAt, inModeOf, keeps, known, marked, noIdPlace, onStart, receivesIn, tellsNow, withKept, withUsed}
 use Rattle.player.specs.Elements.{dispatched, earlier, keptOf, starts}
 use Rattle.player.specs.Evicts.{arrivedIn}
 use Rattle.player.specs.Follows.{inMode, isOff, modeOf}
 use Rattle.player.specs.Leaves.{left}
 use Rattle.player.specs.Once.{leavesIt}
-use Rattle.player.specs.Plays.{Play, due, moved, playsTo, reach, reachBefore, startOf, startsBy, startsIn, toldBy, toldTo}
+use Rattle.player.specs.Plays.{due, moved, playsTo, reach, reachBefore, startOf, startsIn, toldBy, toldTo}
 use Rattle.player.specs.Runs.{Call, World, after, world}
 use Rattle.player.specs.Runs.CallOn.{draw, play, seek, follow, leave, evict}
-use Rattle.player.specs.Seeks.{Seek, activeAt, atTime, seeksTo}
+use Rattle.player.specs.Seeks.{activeAt, atTime, seeksTo}
 use Rattle.player.specs.State.{State}
 use Rattle.player.specs.Tables.{placed, without}
 

@@ -7,9 +7,9 @@ use Rattle.event.specs.declared.dispatches.Dispatch.{Dispatch}
 use Rattle.event.specs.Sinks.{Held}
 use Rattle.event.specs.Times.{latest}
 use Rattle.player.specs.Runs.{Call, New, World, after, runs, world}
-use Rattle.player.specs.Runs.CallOn.{draw, play, seek, follow, leave, evict}
-use Rattle.player.specs.State.{State, fresh}
-use Rattle.player.specs.Stops.{Agree, Stopped, StopsChangeNothing, bareDispatch, bareKept, upTo}
+use Rattle.player.specs.Runs.CallOn.{play}
+use Rattle.player.specs.State.{fresh}
+use Rattle.player.specs.Stops.{Agree, Stopped, StopsChangeNothing, upTo}
 use Rattle.player.specs.Stops.Stopped.{none, alike, stops}
 use Rattle.player.proofs.Bare.{alike-map, bareCall, bareWorld, runs-map}
 use Rattle.player.proofs.Joining.{play-twice}

@@ -1,7 +1,7 @@
 -- Every record that is drawn is counted once.
-use Prim.Native.Nat.{ℕ, suc, _+_, _-_, _≤_}
-use mathlib.Core.Path.{_≡_, refl, sym, _∙_, ap}
-use mathlib.Core.Bool.{Bool, true, false, cond, not}
+use Prim.Native.Nat.{ℕ, _+_, _-_}
+use mathlib.Core.Path.{_≡_, refl, ap}
+use mathlib.Core.Bool.{Bool, cond}
 use mathlib.Core.List.{List, [], _∷_, _++_, map}
 use mathlib.Core.Logic.{inl, inr}
 use native.Mathlib.Omega.{arith}
@@ -20,7 +20,6 @@ use Rattle.event.specs.declared.modes.Mode.{Mode}
 use Rattle.event.specs.declared.modes.Mode.the-variants.{Off, OnReceive, OnStart}
 use Rattle.event.specs.declared.modes.Trigger.the-variants.{Receive, Start}
 use Rattle.event.specs.declared.times.Time.{Time}
-use Rattle.event.specs.Feeds.{Coming}
 use Rattle.event.specs.Numbers.{Answer}
 use Rattle.event.specs.Numbers.Answer.{did, refused, refusedWith}
 use Rattle.event.specs.Spans.{active, ended}

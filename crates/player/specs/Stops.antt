@@ -23,7 +23,7 @@ use Rattle.event.specs.Numbers.{defectNumber}
 use Rattle.event.specs.Times.{latest}
 use Rattle.player.specs.declared.elements.Kept.{Kept}
 use Rattle.player.specs.Runs.{Call, New, World, runs}
-use Rattle.player.specs.Runs.CallOn.{draw, play, seek, follow, leave, evict}
+use Rattle.player.specs.Runs.CallOn.{draw, play}
 
 abbrev pub bareMessage : Message → Message
 bareMessage m = record { place = 0; length = m .length; base64 = m .base64 }

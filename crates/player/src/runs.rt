@@ -3,9 +3,7 @@ ghost use Rattle.player.specs.Values.{StopsChangeNoValue, ValuesHold};
 use event::Feed;
 use event::Sink;
 
-// For two players, the one with feeds F and a sink S, the other with feeds G and a sink T: plays made in stops change nothing; and in either, a
-// stream that stays followed on start is told each id at most once and its events while active, no kept event is active at the playhead, and each
-// record drawn is counted once.
+// What holds of every list of calls on two players, the one with feeds F and a sink S, the other with feeds G and a sink T.
 pub fn runs_hold<F: Feed, G: Feed, S: Sink, T: Sink>() -> u8
     ensures stops_change_nothing { λ _. ⌜ StopsChangeNoValue (F·Feed .coming) (G·Feed .coming) (S·Sink .held) (T·Sink .held) ⌝ }
     ensures first_holds { λ _. ⌜ ValuesHold (F·Feed .coming) (S·Sink .held) ⌝ }

@@ -36,9 +36,7 @@ impl<'a> Tables<'a> {
 }
 
 impl<'a> Player<'a> {
-    // A fresh player: playhead 0, every stream off, nothing kept and no id used. With an empty sink, in every list of calls: plays made in stops
-    // change nothing, a stream that stays followed on start is told each id at most once and each event while it is active, no kept event is
-    // active at the playhead, and each record drawn is counted once.
+    // A fresh player: playhead 0, every stream off, nothing kept and no id used; and what then holds of every list of calls on it, with a sink that was told nothing.
     pub fn new(tables: Tables<'a>, streams: StreamCount) -> Player<'a>
         ensures value { λ r. ⌜ state r ≡ fresh (streams .count) (length (now (tables .entry .kept))) (length (now (tables .entry .used))) ⌝ }
         ensures stops_change_nothing { λ r. ⌜ ((h : Held) → h .told ≡ [] → StopsChangeNothing (world (state r) h)) ⌝ }
