@@ -1,10 +1,16 @@
 pub mod Draws
 pub mod Elements
+pub mod Evicts
 pub mod Follows
 pub mod Leaves
+pub mod Once
 pub mod Plays
 pub mod Rows
+pub mod Runs
 pub mod Seeks
 pub mod Sound
 pub mod State
+pub mod Stops
 pub mod Tables
+pub mod Tally
+pub mod Values

@@ -4,6 +4,7 @@ pub mod orders;
 pub mod picks;
 pub mod players;
 pub mod rows;
+pub mod runs;
 
 pub use elements::Kept;
 pub use elements::UsedId;

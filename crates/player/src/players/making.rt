@@ -1,11 +1,17 @@
 // Making a player.
 ghost use mathlib.Core.Path.{_≡_};
+ghost use mathlib.Core.List.{[]};
 ghost use lib.ListN.{length};
 ghost use Rattle.std.specs.Results.{Cases};
 ghost use mathlib.Core.Bool.{true, false};
 ghost use Rattle.event.specs.Numbers.{refusal};
 ghost use Rattle.event.specs.Numbers.Answer.{refused};
+ghost use Rattle.event.specs.Sinks.{Held};
+ghost use Rattle.player.specs.Once.{NoneKeptActive, OnceWhileFollowed};
+ghost use Rattle.player.specs.Runs.{world};
 ghost use Rattle.player.specs.State.{fresh, state, tablesFit};
+ghost use Rattle.player.specs.Stops.{StopsChangeNothing};
+ghost use Rattle.player.specs.Tally.{TallyAddsUp};
 use super::Head;
 use super::Player;
 use super::Tables;
@@ -30,9 +36,13 @@ impl<'a> Tables<'a> {
 }
 
 impl<'a> Player<'a> {
-    // A fresh player: playhead 0, every stream off, nothing kept and no id used.
+    // A fresh player: playhead 0, every stream off, nothing kept and no id used; and what then holds of every list of calls on it, with a sink that was told nothing.
     pub fn new(tables: Tables<'a>, streams: StreamCount) -> Player<'a>
-        ensures { λ r. ⌜ state r ≡ fresh (streams .count) (length (now (tables .entry .kept))) (length (now (tables .entry .used))) ⌝ }
+        ensures value { λ r. ⌜ state r ≡ fresh (streams .count) (length (now (tables .entry .kept))) (length (now (tables .entry .used))) ⌝ }
+        ensures stops_change_nothing { λ r. ⌜ ((h : Held) → h .told ≡ [] → StopsChangeNothing (world (state r) h)) ⌝ }
+        ensures once_while_followed { λ r. ⌜ ((h : Held) → h .told ≡ [] → OnceWhileFollowed (world (state r) h)) ⌝ }
+        ensures none_kept_active { λ r. ⌜ ((h : Held) → h .told ≡ [] → NoneKeptActive (world (state r) h)) ⌝ }
+        ensures tally_adds_up { λ r. ⌜ ((h : Held) → h .told ≡ [] → TallyAddsUp (world (state r) h)) ⌝ }
     {
         let Tables { kept, used } = tables;
         Player {
