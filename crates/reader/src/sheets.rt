@@ -19,16 +19,16 @@ pub struct EventStream {
 
 // A sheet, the place that a walk over it has come to, and the event stream that governs there.
 #[derive(Clone, Copy)]
-pub struct Sheet<'a> {
+pub struct Sheet<'a, 'c> {
     stretch: Stretch<'a>,
-    catalogue: &'a Catalogue<'a>,
+    catalogue: &'c Catalogue<'a>,
     place: u32,
     stream: Option<EventStream>,
 }
 
 // A feed of a sheet's events: what is next, and the sheet behind it.
 #[derive(Clone, Copy)]
-pub struct SheetReader<'a> {
-    sheet: Sheet<'a>,
+pub struct SheetReader<'a, 'c> {
+    sheet: Sheet<'a, 'c>,
     ready: Look,
 }

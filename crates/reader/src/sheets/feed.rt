@@ -11,9 +11,9 @@ use crate::stretches::Stretch;
 use event::Feed;
 use event::Look;
 
-impl<'a> SheetReader<'a> {
+impl<'a, 'c> SheetReader<'a, 'c> {
     // A reader of the sheet in a stretch, with the streams of a catalogue.
-    pub fn new(stretch: Stretch<'a>, catalogue: &'a Catalogue<'a>) -> SheetReader<'a>
+    pub fn new(stretch: Stretch<'a>, catalogue: &'c Catalogue<'a>) -> SheetReader<'a, 'c>
         ensures coming { λ r. ⌜ comes r ≡ sheet (listed (now (catalogue .entry))) (stretch .entry .from) (part (stretch .entry)) ⌝ }
         ensures inside { λ r. ⌜ AllInside (stretch .entry .from) (stretch .entry .to) (comes r) ⌝ }
     {
@@ -27,7 +27,7 @@ impl<'a> SheetReader<'a> {
     }
 }
 
-pub impl<'a> Feed for SheetReader<'a> as SheetFeed {
+pub impl<'a, 'c> Feed for SheetReader<'a, 'c> as SheetFeed {
     ghost coming = { comes };
 
     fn look(&self) -> Look {

@@ -1,0 +1,6 @@
+mod Digits
+mod Found
+mod Growth
+mod Parts
+mod Slots
+mod Undone
