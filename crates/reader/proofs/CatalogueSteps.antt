@@ -52,11 +52,13 @@ pub record Listed (at place : ℕ) (ts us : List Stream) (o : Option Stream) : T
   pub turn : recordTurn ts o ≡ Gives one us (long one)
   pub place-is : place ≡ at + long one
   pub list-is : us ≡ ts ++ one ∷ []
+  pub fine : None ≡ flaw one ts
 
 record Settled (at place : ℕ) (ts us : List Stream) (s : Stream) (q : Option Refusal) : Type 0 where
   turn : admitted ts s q ≡ Gives s us (long s)
   place-is : place ≡ at + long s
   list-is : us ≡ ts ++ s ∷ []
+  fine : None ≡ q
 
 refused-not-listed : (at place : ℕ) (ts us : List Stream) (s : Stream) (e : Refusal) → (did place ≡ refusal e → ⊥) → (did place, us) ≡ settled (Some e) (behind at s) ts → Settled at place ts us s (Some e)
 refused-not-listed at place ts us s e never q = absurd (never (ap (λ p. p .0) q))
@@ -66,7 +68,7 @@ free-is-listed at place ts us s q =
     let l : us ≡ ts ++ s ∷ [] = ap (λ p. p .1) q in
     let d : did place ≡ did (at + 4 + length (s .scheme) + length (s .value)) = ap (λ p. p .0) q in
     let n : place ≡ at + 4 + length (s .scheme) + length (s .value) = cc in
-    record { turn = ap (λ x. Gives s x (long s)) (sym l); place-is = omega arith; list-is = l }
+    record { turn = ap (λ x. Gives s x (long s)) (sym l); place-is = omega arith; list-is = l; fine = refl }
 
 listed-settled : (at place : ℕ) (ts us : List Stream) (s : Stream) → (did place, us) ≡ settled (flaw s ts) (behind at s) ts → Settled at place ts us s (flaw s ts)
 listed-settled at place ts us s =
@@ -84,7 +86,7 @@ listed-from at place ts us None e =
     let z : _≡_ {A = ℕ} 0 1 = cc in absurd (omega arith)
 listed-from at place ts us (Some s) e =
     let h = listed-settled at place ts us s e in
-    record { one = s; found = refl; turn = h .turn; place-is = h .place-is; list-is = h .list-is }
+    record { one = s; found = refl; turn = h .turn; place-is = h .place-is; list-is = h .list-is; fine = h .fine }
 
 -- a record that was refused, with its list unchanged
 refused-settled : (at : ℕ) (ts : List Stream) (a : Answer ℕ) (s : Stream) (q : Option Refusal) → (a, ts) ≡ settled q (behind at s) ts → (e : Refusal) × (admitted ts s q ≡ Broken e) × (a ≡ refusal e)

@@ -1,7 +1,8 @@
 // A pair of scheme and value, which names a stream.
 ghost use mathlib.Core.Path.{_≡_};
+ghost use Rattle.std.specs.Options.{mapped};
 ghost use Rattle.std.specs.shelf.Text.{sameBytes};
-ghost use Rattle.reader.specs.Pairs.{blank, fronted, lettered, listing, proper, same, stream};
+ghost use Rattle.reader.specs.Pairs.{blank, fronted, listing, proper, same, stream};
 
 // The two strings, as they stand in the media buffer.
 #[derive(Clone, Copy)]
@@ -13,7 +14,7 @@ pub struct Pair<'a> {
 impl<'a> Pair<'a> {
     // The strings of these lengths that stand at the front of the bytes, unless they are cut.
     pub(crate) fn front(bytes: &'a [u8], scheme: u8, value: u8) -> Option<Pair<'a>>
-        ensures { λ r. ⌜ lettered r ≡ fronted scheme value (now (bytes .entry)) ⌝ }
+        ensures { λ r. ⌜ mapped stream r ≡ fronted scheme value (now (bytes .entry)) ⌝ }
     {
         let middle = scheme as usize;
         let end = middle + value as usize;
@@ -28,7 +29,7 @@ impl<'a> Pair<'a> {
 
     // The pair that an `SV` record at the front of the bytes lists, unless the mark is another or the record is cut.
     pub(crate) fn listed(bytes: &'a [u8]) -> Option<Pair<'a>>
-        ensures { λ r. ⌜ lettered r ≡ listing (now (bytes .entry)) ⌝ }
+        ensures { λ r. ⌜ mapped stream r ≡ listing (now (bytes .entry)) ⌝ }
     {
         match bytes {
             [b'S', b'V', scheme, value, rest @ ..] => Pair::front(rest, *scheme, *value),
