@@ -17,7 +17,7 @@ use Rattle.sink.specs.Readable.{used}
 use Rattle.sink.specs.Reading.{pieces, followed, readUpTo, readLog, dispatches}
 use Rattle.sink.specs.Records.{readRecord}
 
-rest-ok : (r : Result Dispatch Defect) (rs : Result (List Dispatch) Defect) → isOk (followed r rs) ≡ true → isOk rs ≡ true
+pub rest-ok : (r : Result Dispatch Defect) (rs : Result (List Dispatch) Defect) → isOk (followed r rs) ≡ true → isOk rs ≡ true
 rest-ok (Err e) rs ok = absurd (false≢true ok)
 rest-ok (Ok d) (Err e) ok = ok
 rest-ok (Ok d) (Ok ds) ok = refl

@@ -1,4 +1,5 @@
 mod Digits
+mod Filling
 mod Found
 mod Growth
 mod Parts

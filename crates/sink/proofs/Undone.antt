@@ -72,21 +72,21 @@ pub checked-record : (d : Dispatch) → checked (recordOf d) ≡ Ok d
 checked-record d =
     let b = bits (isSome (d .span .duration)) (isSome (d .id)) (d .message .base64) (onStart (d .trigger)) in
     let right : flagged (recordOf d) ≡ true =
-        and-from _ _ (b .4) (and-from _ _ (ap (λ h. h || eqb (milliseconds (d .span .duration)) 0) (b .0) ∙ zero-unknown (d .span .duration)) (ap (λ h. h || eqb (orZero (d .id)) 0) (b .1) ∙ zero-unnamed (d .id))) in
+    and-from _ _ (b .4) (and-from _ _ (ap (λ h. h || eqb (milliseconds (d .span .duration)) 0) (b .0) ∙ zero-unknown (d .span .duration)) (ap (λ h. h || eqb (orZero (d .id)) 0) (b .1) ∙ zero-unnamed (d .id))) in
     let soon : inTime (recordOf d) ≡ true =
-        and-from _ _ (le-leb _ _ (d .position .bounded)) (and-from _ _ (le-leb _ _ (d .span .start .bounded)) (le-leb _ _ (late-never (d .span .duration)))) in
+    and-from _ _ (le-leb _ _ (d .position .bounded)) (and-from _ _ (le-leb _ _ (d .span .start .bounded)) (le-leb _ _ (late-never (d .span .duration)))) in
     let same : dispatchIn (recordOf d) ≡ d =
-        λ i. record {
-          position = time-ms (d .position) i;
-          trigger = (ap (λ h. cond h Start Receive) (b .3) ∙ triggered (d .trigger)) i;
-          stream = d .stream;
-          id = (ap (λ h. cond h (Some (orZero (d .id))) None) (b .1) ∙ named (d .id)) i;
-          span = record {
-            start = time-ms (d .span .start) i;
-            duration = (ap (λ h. cond h (Some (time (milliseconds (d .span .duration)))) None) (b .0) ∙ known (d .span .duration)) i;
-          };
-          message = record { place = d .message .place; length = d .message .length; base64 = b .2 i };
-        } in
+    λ i. record {
+      position = time-ms (d .position) i;
+      trigger = (ap (λ h. cond h Start Receive) (b .3) ∙ triggered (d .trigger)) i;
+      stream = d .stream;
+      id = (ap (λ h. cond h (Some (orZero (d .id))) None) (b .1) ∙ named (d .id)) i;
+      span = record {
+        start = time-ms (d .span .start) i;
+        duration = (ap (λ h. cond h (Some (time (milliseconds (d .span .duration)))) None) (b .0) ∙ known (d .span .duration)) i;
+      };
+      message = record { place = d .message .place; length = d .message .length; base64 = b .2 i };
+    } in
     cond-true _ _ _ right ∙ cond-true _ _ _ soon ∙ ap Ok same
 
 record-laid : (r : Record) → r .position < 2 ^ 64 → r .start < 2 ^ 64 → r .duration < 2 ^ 64 → r .id < 2 ^ 32 → r .place < 2 ^ 32 → r .length < 2 ^ 32 → recordAt (laid r) ≡ r

@@ -19,8 +19,11 @@ use event::Trigger;
 pub(crate) const SIZE: usize = 40;
 
 const KNOWN: u8 = 1;
+
 const NAMED: u8 = 2;
+
 const BASE64: u8 = 4;
+
 const ON_START: u8 = 8;
 
 // The number of the four bytes from `at` on.
@@ -103,11 +106,46 @@ impl Record {
         let [m0, m1, m2, m3] = self.place.to_be_bytes();
         let [l0, l1, l2, l3] = self.length.to_be_bytes();
         [
-            b'D', b'L', self.flags, self.stream, //
-            p0, p1, p2, p3, p4, p5, p6, p7, //
-            s0, s1, s2, s3, s4, s5, s6, s7, //
-            d0, d1, d2, d3, d4, d5, d6, d7, //
-            i0, i1, i2, i3, m0, m1, m2, m3, l0, l1, l2, l3,
+            b'D',
+            b'L',
+            self.flags,
+            self.stream, //
+            p0,
+            p1,
+            p2,
+            p3,
+            p4,
+            p5,
+            p6,
+            p7, //
+            s0,
+            s1,
+            s2,
+            s3,
+            s4,
+            s5,
+            s6,
+            s7, //
+            d0,
+            d1,
+            d2,
+            d3,
+            d4,
+            d5,
+            d6,
+            d7, //
+            i0,
+            i1,
+            i2,
+            i3,
+            m0,
+            m1,
+            m2,
+            m3,
+            l0,
+            l1,
+            l2,
+            l3,
         ]
     }
 
@@ -141,7 +179,9 @@ impl Record {
     fn is_flagged(self) -> bool
         ensures { λ r. ⌜ r ≡ flagged self ⌝ }
     {
-        self.flags < 16 && (self.has(KNOWN) || self.duration == 0) && (self.has(NAMED) || self.id == 0)
+        self.flags < 16
+            && (self.has(KNOWN) || self.duration == 0)
+            && (self.has(NAMED) || self.id == 0)
     }
 
     // The dispatch, where its times are not past the latest.
@@ -158,12 +198,20 @@ impl Record {
         };
         Some(Dispatch {
             position,
-            trigger: if self.has(ON_START) { Trigger::Start } else { Trigger::Receive },
+            trigger: if self.has(ON_START) {
+                Trigger::Start
+            } else {
+                Trigger::Receive
+            },
             stream: self.stream,
             id: if self.has(NAMED) { Some(self.id) } else { None },
             span: Span {
                 start,
-                duration: if self.has(KNOWN) { Some(duration) } else { None },
+                duration: if self.has(KNOWN) {
+                    Some(duration)
+                } else {
+                    None
+                },
             },
             message,
         })
