@@ -2,6 +2,7 @@ mod Digits
 mod Filling
 mod Found
 mod Growth
+mod LaidOut
 mod Parts
 mod Slots
 mod Undone
