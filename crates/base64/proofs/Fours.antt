@@ -1,0 +1,71 @@
+-- A text, four characters after four, and bytes, three after three.
+use Prim.Native.Nat.{ℕ, _-_, _≤_, _<_}
+use mathlib.Core.Bool.{Bool, true, false}
+use mathlib.Core.List.{List, [], _∷_, _++_}
+use mathlib.Core.Path.{_≡_, refl, sym, ap, _∙_}
+use native.Mathlib.Omega.{arith}
+use lib.Dec.{eqb}
+use lib.ListN.{length, getD, take, drop}
+use Rattle.std.proofs.shelf.Lists.{take-all}
+use Rattle.std.proofs.shelf.Tests.{false≢true}
+use Rattle.base64.specs.Texts.{accepted, decoded, encoded, digits, full, group, packed}
+
+-- the four characters in front
+abbrev pub full-front : List ℕ → Bool
+full-front xs = full (getD xs 0 0) (getD xs 1 0) (getD xs 2 0) (getD xs 3 0)
+
+-- what is left behind them, as a slice pattern has it
+abbrev pub behind : List ℕ → List ℕ
+behind xs = take (length xs - 4) (drop 4 xs)
+
+behind-is : (a b c d : ℕ) (rest : List ℕ) → behind (a ∷ b ∷ c ∷ d ∷ rest) ≡ rest
+behind-is a b c d rest = take-all _ rest (omega arith)
+
+pub goes-on : (a b c d : ℕ) (rest : List ℕ) → full a b c d ≡ true → accepted rest ≡ accepted (a ∷ b ∷ c ∷ d ∷ rest)
+goes-on a b c d [] f = grind (arith)
+goes-on a b c d (x ∷ rest) f = grind (arith)
+
+pub on : (xs : List ℕ) → 4 ≤ length xs → full-front xs ≡ true → accepted (behind xs) ≡ accepted xs
+on [] h f = absurd (omega arith)
+on (a ∷ []) h f = absurd (omega arith)
+on (a ∷ b ∷ []) h f = absurd (omega arith)
+on (a ∷ b ∷ c ∷ []) h f = absurd (omega arith)
+on (a ∷ b ∷ c ∷ d ∷ rest) h f = ap accepted (behind-is a b c d rest) ∙ goes-on a b c d rest f
+
+stops-at : (a b c d : ℕ) (rest : List ℕ) → full a b c d ≡ false → eqb (length rest) 0 ≡ false → false ≡ accepted (a ∷ b ∷ c ∷ d ∷ rest)
+stops-at a b c d [] f e = absurd (false≢true (sym e))
+stops-at a b c d (x ∷ rest) f e = grind (arith)
+
+pub stops : (xs : List ℕ) → 4 ≤ length xs → full-front xs ≡ false → eqb (length (behind xs)) 0 ≡ false → false ≡ accepted xs
+stops [] h f e = absurd (omega arith)
+stops (a ∷ []) h f e = absurd (omega arith)
+stops (a ∷ b ∷ []) h f e = absurd (omega arith)
+stops (a ∷ b ∷ c ∷ []) h f e = absurd (omega arith)
+stops (a ∷ b ∷ c ∷ d ∷ rest) h f e = stops-at a b c d rest f (rw behind-is at e)
+
+abbrev pub group-front : List ℕ → List ℕ
+group-front xs = group (getD xs 0 0) (getD xs 1 0) (getD xs 2 0) (getD xs 3 0)
+
+pub decoded-on : (xs : List ℕ) → 4 ≤ length xs → decoded xs ≡ group-front xs ++ decoded (behind xs)
+decoded-on [] h = absurd (omega arith)
+decoded-on (a ∷ []) h = absurd (omega arith)
+decoded-on (a ∷ b ∷ []) h = absurd (omega arith)
+decoded-on (a ∷ b ∷ c ∷ []) h = absurd (omega arith)
+decoded-on (a ∷ b ∷ c ∷ d ∷ rest) h = ap (λ l. group a b c d ++ decoded l) (sym (behind-is a b c d rest))
+
+pub decoded-end : (xs : List ℕ) → length xs < 4 → decoded xs ≡ []
+decoded-end [] h = refl
+decoded-end (a ∷ []) h = refl
+decoded-end (a ∷ b ∷ []) h = refl
+decoded-end (a ∷ b ∷ c ∷ []) h = refl
+decoded-end (a ∷ b ∷ c ∷ d ∷ rest) h = absurd (omega arith)
+
+-- the three bytes in front
+abbrev pub digits-front : List ℕ → List ℕ
+digits-front xs = digits (packed (getD xs 0 0) (getD xs 1 0) (getD xs 2 0))
+
+pub encoded-on : (xs : List ℕ) → 3 ≤ length xs → encoded xs ≡ digits-front xs ++ encoded (take (length xs - 3) (drop 3 xs))
+encoded-on [] h = absurd (omega arith)
+encoded-on (a ∷ []) h = absurd (omega arith)
+encoded-on (a ∷ b ∷ []) h = absurd (omega arith)
+encoded-on (a ∷ b ∷ c ∷ rest) h = ap (λ l. digits (packed a b c) ++ encoded l) (sym (take-all _ rest (omega arith)))

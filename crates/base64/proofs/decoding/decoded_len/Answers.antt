@@ -1,0 +1,7 @@
+use native.Mathlib.Omega.{arith}
+use Rattle.std.proofs.shelf.Ways.{tells}
+use Rattle.base64.proofs.Sizes.{sized}
+use Rattle.base64.proofs.decoding.decoded_len.Needs as need
+
+pub returns : need.returns
+returns c = let s = sized (c .args .text .now) (c .pre) in grind (arith, tells)

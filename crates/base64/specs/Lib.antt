@@ -1,0 +1,4 @@
+pub mod Alphabet
+pub mod Calls
+pub mod Laws
+pub mod Texts

@@ -1,0 +1,11 @@
+// Readers: from bytes of the media buffer to the catalogue of streams and to the records of a feed.
+pub mod catalogues;
+pub(crate) mod pairs;
+pub mod sheets;
+pub mod stretches;
+pub mod timescales;
+pub(crate) mod walks;
+
+pub use catalogues::Catalogue;
+pub use stretches::Stretch;
+pub use timescales::Timescale;
