@@ -1,5 +1,6 @@
 pub mod BigEndian
 pub mod Catalogues
+pub mod Messages
 pub mod Pairs
 pub mod SheetRecords
 pub mod Sheets

@@ -1,5 +1,6 @@
 // Readers: from bytes of the media buffer to the catalogue of streams and to the records of a feed.
 pub mod catalogues;
+pub mod messages;
 pub(crate) mod pairs;
 pub mod sheets;
 pub mod stretches;
@@ -7,5 +8,6 @@ pub mod timescales;
 pub(crate) mod walks;
 
 pub use catalogues::Catalogue;
+pub use messages::message;
 pub use stretches::Stretch;
 pub use timescales::Timescale;
