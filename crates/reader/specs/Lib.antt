@@ -6,4 +6,5 @@ pub mod SheetRecords
 pub mod Sheets
 pub mod Stretches
 pub mod Timescales
+pub mod Timings
 pub mod Walks

@@ -5,9 +5,11 @@ pub(crate) mod pairs;
 pub mod sheets;
 pub mod stretches;
 pub mod timescales;
+pub mod timings;
 pub(crate) mod walks;
 
 pub use catalogues::Catalogue;
 pub use messages::message;
 pub use stretches::Stretch;
 pub use timescales::Timescale;
+pub use timings::Timing;
