@@ -1,4 +1,5 @@
 pub mod BigEndian
+pub mod Boxes
 pub mod Catalogues
 pub mod Messages
 pub mod Pairs

@@ -2,6 +2,7 @@
 pub mod catalogues;
 pub mod messages;
 pub(crate) mod pairs;
+pub mod segments;
 pub mod sheets;
 pub mod stretches;
 pub mod timescales;

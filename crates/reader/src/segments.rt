@@ -1,0 +1,2 @@
+// Segments: a row of boxes, of which emsg boxes give events.
+pub mod boxes;

@@ -1,0 +1,126 @@
+// The boxes of a segment: how each says its size, and what a reader does with it.
+ghost use Prim.Native.Nat.{_≤_};
+ghost use mathlib.Core.Path.{_≡_};
+ghost use lib.ListN.{length};
+ghost use Rattle.reader.specs.Boxes.{body, head, kind, largeSize, sizeOf, judged, span, version};
+use crate::timings::Version;
+use event::Defect;
+
+// How a box says its size: not at all, by its first number, by a longer one, or by reaching to the end.
+#[derive(Clone, Copy)]
+pub enum Size {
+    Cut,
+    Plain(u32),
+    Large(u64),
+    Rest,
+}
+
+// What a reader does with a box: it stops at it, steps over it, or reads its event.
+#[derive(Clone, Copy)]
+pub enum Use {
+    Wrong(Defect),
+    Other,
+    Emsg(Version),
+}
+
+// The type of the boxes that hold events: `emsg`.
+const EMSG: u32 = 0x656d_7367;
+
+// The size that stands behind the type.
+fn large(bytes: &[u8]) -> Size
+    ensures { λ r. ⌜ r ≡ largeSize (now (bytes .entry)) ⌝ }
+{
+    match bytes {
+        [_, _, _, _, _, _, _, _, a, b, c, d, e, f, g, h, ..] => Size::Large(u64::from_be_bytes([
+            *a,
+            *b,
+            *c,
+            *d,
+            *e,
+            *f,
+            *g,
+            *h,
+        ])),
+        _ => Size::Cut,
+    }
+}
+
+// The type of the box at the front of the bytes.
+pub fn kind(bytes: &[u8]) -> u32
+    requires { ⌜ 8 ≤ length (now bytes) ⌝ }
+    ensures { λ r. ⌜ r ≡ kind (now (bytes .entry)) ⌝ }
+{
+    u32::from_be_bytes([bytes[4], bytes[5], bytes[6], bytes[7]])
+}
+
+impl Size {
+    // How the box at the front of the bytes says its size.
+    pub fn of(bytes: &[u8]) -> Size
+        ensures { λ r. ⌜ r ≡ sizeOf (now (bytes .entry)) ⌝ }
+    {
+        let [a, b, c, d, _, _, _, _, ..] = bytes else {
+            return Size::Cut;
+        };
+        match u32::from_be_bytes([*a, *b, *c, *d]) {
+            0 => Size::Rest,
+            1 => large(bytes),
+            n => Size::Plain(n),
+        }
+    }
+
+    // The length of the box's head.
+    fn head(self) -> usize
+        ensures { λ r. ⌜ r ≡ head self ⌝ }
+    {
+        match self {
+            Size::Large(_) => 16,
+            _ => 8,
+        }
+    }
+
+    // The box's size, where so many bytes are left.
+    pub fn span(self, left: usize) -> usize
+        ensures { λ r. ⌜ r ≡ span self left ⌝ }
+    {
+        match self {
+            Size::Cut => 0,
+            Size::Plain(n) => n as usize,
+            Size::Large(n) => n as usize,
+            Size::Rest => left,
+        }
+    }
+
+    // What stands behind the head of the box at the front of the bytes, as far as it is there.
+    pub fn body(self, bytes: &[u8]) -> &[u8]
+        ensures { λ r. ⌜ now r ≡ body self (now (bytes .entry)) ⌝ }
+    {
+        let end = bytes.len().min(self.span(bytes.len()));
+        let start = end.min(self.head());
+        &bytes[start..end]
+    }
+}
+
+// The version at the front of a body, unless it or the flags behind it are cut.
+pub fn version(body: &[u8]) -> Option<u8>
+    ensures { λ r. ⌜ r ≡ version (now (body .entry)) ⌝ }
+{
+    match body {
+        [version, _, _, _, ..] => Some(*version),
+        _ => None,
+    }
+}
+
+// What a reader does with a box of such a size, where so many bytes are left, of such a type and version.
+pub fn judge(size: Size, left: usize, kind: u32, version: Option<u8>) -> Use
+    ensures { λ r. ⌜ r ≡ judged size left kind version ⌝ }
+{
+    match (size, kind, version) {
+        (Size::Cut, _, _) => Use::Wrong(Defect::BoxSize),
+        (Size::Plain(n), _, _) if n < 8 || n as usize > left => Use::Wrong(Defect::BoxSize),
+        (Size::Large(n), _, _) if n < 16 || n as usize > left => Use::Wrong(Defect::BoxSize),
+        (_, EMSG, None) => Use::Wrong(Defect::BoxFields),
+        (_, EMSG, Some(0)) => Use::Emsg(Version::Zero),
+        (_, EMSG, Some(1)) => Use::Emsg(Version::One),
+        _ => Use::Other,
+    }
+}
