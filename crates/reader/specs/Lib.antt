@@ -3,7 +3,9 @@ pub mod Boxes
 pub mod Catalogues
 pub mod Messages
 pub mod Pairs
+pub mod Readers
 pub mod SheetRecords
+pub mod SheetWalks
 pub mod Sheets
 pub mod Stretches
 pub mod Timescales

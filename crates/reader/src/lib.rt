@@ -11,6 +11,8 @@ pub(crate) mod walks;
 
 pub use catalogues::Catalogue;
 pub use messages::message;
+pub use sheets::SheetReader;
+pub use sheets::feed::SheetFeed;
 pub use stretches::Stretch;
 pub use timescales::Timescale;
 pub use timings::Timing;
