@@ -1,5 +1,5 @@
 -- The boxes of a segment.
---   kind bs        the type of the box at the front of bs
+--   kind bs        the type of the box at the front of bs, where it is there
 --   sizeOf bs      how that box says its size: a u32 at its front; 1 where a u64 behind its type says it, 0 where it reaches to the end
 --   head z         the length of its head
 --   span z n       its size, where n bytes are left
@@ -22,11 +22,11 @@ use Rattle.reader.specs.BigEndian.{num32, num64}
 use Rattle.reader.specs.declared.segments.boxes.Size.{Size}
 use Rattle.reader.specs.declared.segments.boxes.Size.the-variants.{Cut, Plain, Large, Rest}
 use Rattle.reader.specs.declared.segments.boxes.Use.{Use}
-use Rattle.reader.specs.declared.segments.boxes.Use.the-variants.{Wrong, Other, Emsg}
+use Rattle.reader.specs.declared.segments.boxes.Use.the-variants.{Wrong, Other, Reads}
 use Rattle.reader.specs.declared.timings.Version.the-variants.{Zero, One}
 
-abbrev pub kind : List ℕ → ℕ
-kind bs = num32 bs 4
+abbrev pub kind : List ℕ → Option ℕ
+kind bs = cond (leb 8 (length bs)) (Some (num32 bs 4)) None
 
 abbrev pub largeSize : List ℕ → Size
 largeSize bs = cond (leb 16 (length bs)) (Large (num64 bs 8)) Cut
@@ -66,7 +66,11 @@ emsg = 1701671783
 
 abbrev pub judgedBy : Option ℕ → Use
 judgedBy None = Wrong BoxFields
-judgedBy (Some v) = cond (eqb v 0) (Emsg Zero) (cond (eqb v 1) (Emsg One) Other)
+judgedBy (Some v) = cond (eqb v 0) (Reads Zero) (cond (eqb v 1) (Reads One) Other)
 
-abbrev pub judged : Size → ℕ → ℕ → Option ℕ → Use
-judged z n k v = cond (bad z n) (Wrong BoxSize) (cond (eqb k emsg) (judgedBy v) Other)
+abbrev pub typed : Option ℕ → Option ℕ → Use
+typed None v = Other
+typed (Some k) v = cond (eqb k emsg) (judgedBy v) Other
+
+abbrev pub judged : Size → ℕ → Option ℕ → Option ℕ → Use
+judged z n k v = cond (bad z n) (Wrong BoxSize) (typed k v)

@@ -1,6 +1,7 @@
 // Readers: from bytes of the media buffer to the catalogue of streams and to the records of a feed.
 pub mod catalogues;
 pub mod messages;
+pub(crate) mod numbers;
 pub(crate) mod pairs;
 pub mod segments;
 pub mod sheets;

@@ -1,2 +1,3 @@
 // Segments: a row of boxes, of which emsg boxes give events.
 pub mod boxes;
+pub mod emsgs;

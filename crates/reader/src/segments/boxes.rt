@@ -1,8 +1,8 @@
 // The boxes of a segment: how each says its size, and what a reader does with it.
-ghost use Prim.Native.Nat.{_≤_};
 ghost use mathlib.Core.Path.{_≡_};
-ghost use lib.ListN.{length};
 ghost use Rattle.reader.specs.Boxes.{body, head, kind, largeSize, sizeOf, judged, span, version};
+use crate::numbers::u32_at;
+use crate::numbers::u64_at;
 use crate::timings::Version;
 use event::Defect;
 
@@ -20,7 +20,7 @@ pub enum Size {
 pub enum Use {
     Wrong(Defect),
     Other,
-    Emsg(Version),
+    Reads(Version),
 }
 
 // The type of the boxes that hold events: `emsg`.
@@ -30,27 +30,20 @@ const EMSG: u32 = 0x656d_7367;
 fn large(bytes: &[u8]) -> Size
     ensures { λ r. ⌜ r ≡ largeSize (now (bytes .entry)) ⌝ }
 {
-    match bytes {
-        [_, _, _, _, _, _, _, _, a, b, c, d, e, f, g, h, ..] => Size::Large(u64::from_be_bytes([
-            *a,
-            *b,
-            *c,
-            *d,
-            *e,
-            *f,
-            *g,
-            *h,
-        ])),
-        _ => Size::Cut,
+    if bytes.len() < 16 {
+        return Size::Cut;
     }
+    Size::Large(u64_at(bytes, 8))
 }
 
-// The type of the box at the front of the bytes.
-pub fn kind(bytes: &[u8]) -> u32
-    requires { ⌜ 8 ≤ length (now bytes) ⌝ }
+// The type of the box at the front of the bytes, unless it is cut.
+pub fn kind(bytes: &[u8]) -> Option<u32>
     ensures { λ r. ⌜ r ≡ kind (now (bytes .entry)) ⌝ }
 {
-    u32::from_be_bytes([bytes[4], bytes[5], bytes[6], bytes[7]])
+    if bytes.len() < 8 {
+        return None;
+    }
+    Some(u32_at(bytes, 4))
 }
 
 impl Size {
@@ -58,10 +51,10 @@ impl Size {
     pub fn of(bytes: &[u8]) -> Size
         ensures { λ r. ⌜ r ≡ sizeOf (now (bytes .entry)) ⌝ }
     {
-        let [a, b, c, d, _, _, _, _, ..] = bytes else {
+        if bytes.len() < 8 {
             return Size::Cut;
-        };
-        match u32::from_be_bytes([*a, *b, *c, *d]) {
+        }
+        match u32_at(bytes, 0) {
             0 => Size::Rest,
             1 => large(bytes),
             n => Size::Plain(n),
@@ -111,16 +104,16 @@ pub fn version(body: &[u8]) -> Option<u8>
 }
 
 // What a reader does with a box of such a size, where so many bytes are left, of such a type and version.
-pub fn judge(size: Size, left: usize, kind: u32, version: Option<u8>) -> Use
+pub fn judge(size: Size, left: usize, kind: Option<u32>, version: Option<u8>) -> Use
     ensures { λ r. ⌜ r ≡ judged size left kind version ⌝ }
 {
     match (size, kind, version) {
         (Size::Cut, _, _) => Use::Wrong(Defect::BoxSize),
         (Size::Plain(n), _, _) if n < 8 || n as usize > left => Use::Wrong(Defect::BoxSize),
         (Size::Large(n), _, _) if n < 16 || n as usize > left => Use::Wrong(Defect::BoxSize),
-        (_, EMSG, None) => Use::Wrong(Defect::BoxFields),
-        (_, EMSG, Some(0)) => Use::Emsg(Version::Zero),
-        (_, EMSG, Some(1)) => Use::Emsg(Version::One),
+        (_, Some(EMSG), None) => Use::Wrong(Defect::BoxFields),
+        (_, Some(EMSG), Some(0)) => Use::Reads(Version::Zero),
+        (_, Some(EMSG), Some(1)) => Use::Reads(Version::One),
         _ => Use::Other,
     }
 }
