@@ -1,6 +1,6 @@
 -- Start and duration of an emsg box, once its parts are known.
-use Prim.Native.Nat.{ℕ, max, min, _≤_}
-use mathlib.Core.Bool.{Bool, true, false, cond}
+use Prim.Native.Nat.{ℕ}
+use mathlib.Core.Bool.{true, cond}
 use mathlib.Core.Path.{_≡_, sym, ap, _∙_}
 use native.Mathlib.Omega.{arith}
 use lib.Dec.{leb}

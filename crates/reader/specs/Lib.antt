@@ -5,6 +5,7 @@ pub mod Emsgs
 pub mod Messages
 pub mod Pairs
 pub mod Readers
+pub mod SegmentWalks
 pub mod Segments
 pub mod SheetRecords
 pub mod SheetWalks

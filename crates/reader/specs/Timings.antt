@@ -11,7 +11,7 @@ use Rattle.std.specs.declared.option.Option.{Option}
 use Rattle.std.specs.declared.option.Option.the-variants.{Some, None}
 use Rattle.std.specs.declared.result.Result.{Result}
 use Rattle.std.specs.declared.result.Result.the-variants.{Ok, Err}
-use Rattle.event.specs.Numbers.{Answer, refusal}
+use Rattle.event.specs.Numbers.{Answer}
 use Rattle.event.specs.Numbers.Answer.{did, refused}
 use Rattle.event.specs.Times.{latest, time}
 use Rattle.event.specs.declared.faults.Defect.{Defect}

@@ -12,6 +12,8 @@ pub(crate) mod walks;
 
 pub use catalogues::Catalogue;
 pub use messages::message;
+pub use segments::SegmentReader;
+pub use segments::feed::SegmentFeed;
 pub use sheets::SheetReader;
 pub use sheets::feed::SheetFeed;
 pub use stretches::Stretch;

@@ -3,14 +3,14 @@ use Prim.Native.Nat.{ℕ, zero, suc, _+_, _-_, _*_, _<_, _≤_}
 use mathlib.Core.Bool.{true, cond}
 use mathlib.Core.List.{List, [], _∷_, _++_}
 use mathlib.Core.Path.{_≡_, refl, sym, ap, _∙_}
-use native.Mathlib.Nat.{sub-zero, mul-zero}
+use native.Mathlib.Nat.{sub-zero}
 use native.Mathlib.Omega.{arith}
 use lib.Dec.{leb}
 use lib.ListN.{length, take, drop, set}
 use Rattle.std.specs.Results.{isOk}
 use Rattle.std.specs.declared.result.Result.{Result}
 use Rattle.std.specs.declared.result.Result.the-variants.{Ok, Err}
-use Rattle.std.proofs.shelf.Lists.{append-assoc, drop-drop, drop-more, drop-set-lt, take-append-drop, take-more-set, length-set}
+use Rattle.std.proofs.shelf.Lists.{append-assoc, drop-drop, drop-more, drop-set-lt, take-append-drop, take-more-set}
 use Rattle.std.proofs.shelf.Tests.{false≢true, cond-true, cond-false, le-leb, lt-leb}
 use Rattle.event.specs.Fronts.{front}
 use Rattle.event.specs.Numbers.Answer.{did, refused}

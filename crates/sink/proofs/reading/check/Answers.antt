@@ -1,5 +1,5 @@
 use Prim.Native.Nat.{_+_, _*_}
-use mathlib.Core.Path.{_≡_, ap, sym, _∙_}
+use mathlib.Core.Path.{ap, sym, _∙_}
 use native.Mathlib.Omega.{arith}
 use lib.ListN.{take, drop}
 use Rattle.std.specs.declared.result.Result.the-variants.{Err}

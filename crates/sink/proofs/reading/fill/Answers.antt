@@ -1,7 +1,7 @@
 use Prim.Native.Nat.{_+_, _*_, _<_}
-use mathlib.Core.Path.{_≡_, ap, sym, _∙_}
+use mathlib.Core.Path.{ap, sym, _∙_}
 use native.Mathlib.Omega.{arith}
-use lib.ListN.{take, drop, length, set}
+use lib.ListN.{take, drop, length}
 use Rattle.std.specs.Results.{isOk}
 use Rattle.std.proofs.shelf.Tests.{false≢true}
 use Rattle.sink.specs.Records.{readRecord}

@@ -1,6 +1,4 @@
-use borrow.Author.Needs.{needs}
-use mathlib.Core.Path.{_≡_, sym, _∙_}
-use native.Mathlib.Omega.{arith}
+use mathlib.Core.Path.{sym, _∙_}
 use Rattle.reader.proofs.Closings.{zero-here, zero-later, zero-nowhere}
 use Rattle.reader.proofs.segments.emsgs.zero_at.Needs as need
 
