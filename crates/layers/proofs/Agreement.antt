@@ -5,10 +5,9 @@ use mathlib.Core.List.{List, [], _∷_, _++_, map, append-assoc}
 use mathlib.Core.Path.{_≡_, refl, sym, _∙_}
 use native.Mathlib.Nat.{add-zero}
 use native.Mathlib.Omega.{arith}
-use lib.Dec.{leb}
 use Rattle.event.proofs.Clock.{known-by-ms, time-ms}
 use Rattle.event.specs.Feeds.{Coming}
-use Rattle.event.specs.Times.{latest, time}
+use Rattle.event.specs.Times.{time}
 use Rattle.event.specs.declared.events.Event.{Event}
 use Rattle.event.specs.declared.faults.Fault.{Fault}
 use Rattle.event.specs.declared.feeds.Ending.{Ending}

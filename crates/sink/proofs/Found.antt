@@ -3,7 +3,6 @@ use Prim.Native.Nat.{ℕ}
 use mathlib.Core.Bool.{Bool, true, false, cond}
 use mathlib.Core.Path.{_≡_}
 use native.Mathlib.Omega.{arith}
-use Rattle.std.specs.declared.option.Option.{Option}
 use Rattle.std.specs.declared.option.Option.the-variants.{Some, None}
 
 pub answered : {R S : Type 0} (b : Bool) (r s : R) (f : R → S) (x z : S) → Some r ≡ cond b (Some s) None → x ≡ f r → x ≡ cond b (f s) z

@@ -1,8 +1,8 @@
 -- A log that grows by one record reads as one dispatch more.
-use Prim.Native.Nat.{ℕ, zero, suc, _+_, _-_, _*_, _/_, _≤_}
+use Prim.Native.Nat.{ℕ, zero, suc, _+_, _-_, _*_, _≤_}
 use mathlib.Core.Bool.{true}
 use mathlib.Core.List.{List, [], _∷_, _++_}
-use mathlib.Core.Path.{_≡_, refl, sym, ap, subst, _∙_}
+use mathlib.Core.Path.{_≡_, refl, sym, ap, _∙_}
 use native.Mathlib.Omega.{arith}
 use lib.ListN.{length, take, drop}
 use Rattle.std.specs.Results.{isOk}
@@ -17,7 +17,7 @@ use Rattle.sink.specs.Readable.{used}
 use Rattle.sink.specs.Reading.{pieces, followed, readUpTo, readLog, dispatches}
 use Rattle.sink.specs.Records.{readRecord}
 
-rest-ok : (r : Result Dispatch Defect) (rs : Result (List Dispatch) Defect) → isOk (followed r rs) ≡ true → isOk rs ≡ true
+pub rest-ok : (r : Result Dispatch Defect) (rs : Result (List Dispatch) Defect) → isOk (followed r rs) ≡ true → isOk rs ≡ true
 rest-ok (Err e) rs ok = absurd (false≢true ok)
 rest-ok (Ok d) (Err e) ok = ok
 rest-ok (Ok d) (Ok ds) ok = refl

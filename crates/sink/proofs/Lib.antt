@@ -1,6 +1,8 @@
 mod Digits
+mod Filling
 mod Found
 mod Growth
+mod LaidOut
 mod Parts
 mod Slots
 mod Undone

@@ -1,9 +1,9 @@
 -- A list that grows at the front of its slots.
 use Prim.Native.Nat.{ℕ, zero, suc, min, _+_}
-use mathlib.Core.List.{List, _++_, _∷_, []}
+use mathlib.Core.List.{List, _∷_, []}
 use mathlib.Core.Path.{_≡_, refl, ap}
 use native.Mathlib.Numerals.{add-one, unary-clauses}
-use lib.ListN.{length, take, drop, set}
+use lib.ListN.{length, take, set}
 use Rattle.event.specs.Fronts.{front}
 
 -- a count past the slots takes them all

@@ -1,25 +1,24 @@
 -- Reading undoes writing: one record.
 use Prim.Native.Nat.{ℕ, _<_, _^_, _≤_}
-use mathlib.Core.Bool.{Bool, true, false, cond, not, _&&_, _||_}
+use mathlib.Core.Bool.{Bool, true, false, cond, _||_}
 use mathlib.Core.Path.{_≡_, refl, ap, _∙_}
 use native.Mathlib.Omega.{arith}
 use lib.Bits.{bitOr}
-use lib.Dec.{leb, ltb, eqb}
+use lib.Dec.{ltb, eqb}
 use lib.ListN.{length}
 use Rattle.std.specs.Options.{isSome}
 use Rattle.std.specs.declared.option.Option.{Option}
 use Rattle.std.specs.declared.option.Option.the-variants.{Some, None}
-use Rattle.std.specs.declared.result.Result.the-variants.{Ok, Err}
+use Rattle.std.specs.declared.result.Result.the-variants.{Ok}
 use Rattle.std.proofs.shelf.Tests.{cond-true, le-leb, and-from}
 use Rattle.event.proofs.Clock.{time-ms}
 use Rattle.event.specs.Times.{latest, time}
 use Rattle.event.specs.declared.dispatches.Dispatch.{Dispatch}
-use Rattle.event.specs.declared.faults.Defect.the-variants.{CutRecord, Flags, PastLatest}
 use Rattle.event.specs.declared.modes.Trigger.{Trigger}
 use Rattle.event.specs.declared.modes.Trigger.the-variants.{Receive, Start}
 use Rattle.event.specs.declared.times.Time.{Time}
 use Rattle.sink.proofs.Digits.{num-bytes32, num-bytes64}
-use Rattle.sink.specs.Records.{laid, marked, recordAt, has, onStart, flagsOf, milliseconds, orZero, recordOf, flagged, inTime, dispatchIn, checked, readRecord}
+use Rattle.sink.specs.Records.{laid, recordAt, has, onStart, milliseconds, orZero, recordOf, flagged, inTime, dispatchIn, checked, readRecord}
 use Rattle.sink.specs.declared.records.Record.{Record}
 
 abbrev set : Bool → Bool → Bool → Bool → ℕ

@@ -4,6 +4,8 @@
 --   readUpTo n bs    the dispatches of the first n records
 --   readLog bs       the dispatches of all records, or what is wrong with the first that cannot be read
 --   dispatches r     the dispatches that were read; none where a record cannot be read
+--   placed r ds      what was read, put into a lent list
+--   verdict r        that all records can be read, or the first defect
 --   readInto bs ds   reading bytes into a lent list: the number read, which then stand at its front; a refusal leaves it
 use Prim.Native.Nat.{ℕ, zero, suc, _+_, _/_}
 use mathlib.Core.Bool.{cond}
@@ -37,6 +39,10 @@ readLog bs = readUpTo (pieces bs) bs
 abbrev pub dispatches : Result (List Dispatch) Defect → List Dispatch
 dispatches (Ok ds) = ds
 dispatches (Err e) = []
+
+abbrev pub verdict : Result (List Dispatch) Defect → Result (Unit {0}) Defect
+verdict (Ok ds) = Ok tt
+verdict (Err e) = Err e
 
 abbrev pub placed : Result (List Dispatch) Defect → List Dispatch → Answer ℕ × List Dispatch
 placed (Err e) list = (refused (defectNumber e), list)

@@ -1,7 +1,6 @@
 // Making a join of two feeds, looking at it and stepping it.
 ghost use Prim.Native.Nat.{ℕ};
 ghost use mathlib.Core.Path.{_≡_};
-ghost use denote.Ref.{now};
 ghost use Rattle.event.specs.Feeds.{Coming};
 ghost use Rattle.layers.specs.Joins.{joined};
 ghost use Rattle.layers.specs.Periods.{inPeriod};

