@@ -1,4 +1,4 @@
--- How a leave and a seek go.
+-- How a leave, a seek and an evict go.
 use Prim.Native.Nat.{ℕ, _≤_, _<_}
 use mathlib.Core.Path.{_≡_, refl, sym, _∙_, ap}
 use mathlib.Core.Bool.{true, false}
@@ -13,11 +13,14 @@ use Rattle.event.specs.Numbers.Answer.{did, refused}
 use Rattle.event.specs.Sinks.{Held}
 use Rattle.event.specs.Times.{latest, time}
 use Rattle.event.proofs.Clock.{time-ms}
+use Rattle.player.specs.Draws.{withKept}
+use Rattle.player.specs.Evicts.{arrivedIn, evicts}
 use Rattle.player.specs.Follows.{isOff, modeOf}
 use Rattle.player.specs.Leaves.{keptIn, leaves, left}
 use Rattle.player.specs.Plays.{moved, toldBy, toldTo}
 use Rattle.player.specs.Seeks.{Seek, activeAt, atTime, seeks, seeksTo}
 use Rattle.player.specs.State.{State}
+use Rattle.player.specs.Tables.{without}
 use Rattle.player.proofs.Playing.{atPlayhead}
 
 pub leaves-done : (s : ℕ) (w : State) → s < w .streams → isOff (modeOf w s) ≡ false → _≡_ {A = Answer ℕ × State} (did (length (kept-by (keptIn s) (w .kept))), left s w) (leaves s w)
@@ -45,3 +48,10 @@ module _ (t : ℕ) (w : State) (h : Held) where
       ∙ ap by-time (sym (time-ms r))
       ∙ ap (λ u. seeksTo u w h) is
       ∙ seeks-on l (omega (arith, ap (λ u. length (kept-by (activeAt u) (w .kept))) is))
+
+module _ (a b : ℕ) (w : State) where
+  pub evicts-back : b < a → _≡_ {A = Answer ℕ × State} (refused 25, w) (evicts a b w)
+  evicts-back l = rw (lt-ltb b a l)
+
+  pub evicts-done : a ≤ b → _≡_ {A = Answer ℕ × State} (did (length (kept-by (arrivedIn a b) (w .kept))), withKept w (without (arrivedIn a b) (w .kept))) (evicts a b w)
+  evicts-done l = rw (le-ltb b a l)

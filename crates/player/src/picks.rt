@@ -3,6 +3,7 @@ ghost use mathlib.Core.Path.{_≡_};
 ghost use Rattle.event.specs.declared.times.Time.{Time as Moment};
 ghost use Rattle.player.specs.declared.elements.Kept.{Kept as Item};
 ghost use Rattle.player.specs.Elements.{hasId};
+ghost use Rattle.player.specs.Evicts.{arrivedIn};
 ghost use Rattle.player.specs.Leaves.{keptIn, usedIn};
 ghost use Rattle.player.specs.Plays.{startOf, startsBy, startsIn};
 ghost use Rattle.player.specs.Seeks.{activeAt, atTime};
@@ -111,5 +112,21 @@ pub impl Test<Kept> for WithId as WithIdTest {
 
     fn passes(&self, x: Kept) -> bool {
         x.id.is_some()
+    }
+}
+
+// Passes what arrived at one time or later, and before another.
+#[derive(Clone, Copy)]
+pub struct ArrivedIn {
+    pub from: u64,
+    pub to: u64,
+}
+
+pub impl Test<Kept> for ArrivedIn as ArrivedInTest {
+    ghost passing = { λ t. arrivedIn (t .from) (t .to) };
+
+    fn passes(&self, x: Kept) -> bool {
+        let arrival = x.arrival.ms();
+        self.from <= arrival && arrival < self.to
     }
 }

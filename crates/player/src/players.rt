@@ -10,6 +10,7 @@ use event::times::TimeDebug;
 use event::times::TimePartialEq;
 
 pub mod drawing;
+pub mod evicting;
 pub mod following;
 pub mod making;
 pub mod playing;

@@ -11,13 +11,13 @@ use crate::timings::Timing;
 use event::Feed;
 use event::Look;
 
-impl<'a> SegmentReader<'a> {
+impl<'a, 'c> SegmentReader<'a, 'c> {
     // A reader of the segment in a stretch, whose times count so, with the streams of a catalogue.
     pub fn new(
         stretch: Stretch<'a>,
         timing: Timing,
-        catalogue: &'a Catalogue<'a>,
-    ) -> SegmentReader<'a>
+        catalogue: &'c Catalogue<'a>,
+    ) -> SegmentReader<'a, 'c>
         ensures { λ r. ⌜ comes r ≡ segment (listed (now (catalogue .entry))) timing (stretch .entry .from) (part (stretch .entry)) ⌝ }
     {
         let segment = Segment {
@@ -30,7 +30,7 @@ impl<'a> SegmentReader<'a> {
     }
 }
 
-pub impl<'a> Feed for SegmentReader<'a> as SegmentFeed {
+pub impl<'a, 'c> Feed for SegmentReader<'a, 'c> as SegmentFeed {
     ghost coming = { comes };
 
     fn look(&self) -> Look {
