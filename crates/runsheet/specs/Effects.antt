@@ -5,6 +5,7 @@
 --   drawsFrom c w h          the same of all that is to come
 --   done a                   the answer without its value
 --   drawsSheet p e ts w h    drawing the sheet in a stretch, in a period that starts at p
+--   drawsSegment p e t ts w h   drawing the segment in a stretch, with its timing, likewise
 --   performs c m ts w h      what a command does, over the media buffer m with the streams ts listed
 use Prim.Native.Nat.{ℕ}
 use mathlib.Core.List.{List, [], _∷_}
@@ -12,12 +13,18 @@ use Rattle.std.specs.shelf.Lists.{between}
 use Rattle.event.specs.Feeds.{Coming}
 use Rattle.layers.specs.Periods.{inPeriod}
 use Rattle.reader.specs.Pairs.{Stream}
+use Rattle.reader.specs.SegmentWalks.{segment}
 use Rattle.reader.specs.SheetWalks.{sheet}
+use Rattle.reader.specs.Timings.{timing}
+use Rattle.reader.specs.declared.timings.Timing.{Timing}
 use Rattle.reader.specs.Stretches.{Extent, stretch}
 use Rattle.player.specs.Follows.{follows}
+use Rattle.player.specs.Evicts.{evicts}
+use Rattle.player.specs.Leaves.{leaves}
 use Rattle.player.specs.Plays.{plays}
+use Rattle.player.specs.Seeks.{seeks}
 use Rattle.runsheet.specs.declared.commands.Command.{Command}
-use Rattle.runsheet.specs.declared.commands.Command.the-variants.{Follow, Play, DrawSheet}
+use Rattle.runsheet.specs.declared.commands.Command.the-variants.{Follow, Leave, Play, Seek, Evict, DrawSheet, DrawSegment}
 use Rattle.event.specs.declared.events.Event.{Event}
 use Rattle.event.specs.declared.feeds.Ending.{Ending}
 use Rattle.event.specs.declared.feeds.Ending.the-variants.{Clean, Broken}
@@ -56,7 +63,19 @@ drawsSheet start (did e) streams w h = drawsFrom (inPeriod start (sheet streams 
 drawsSheet start (refused n) streams w h = (refused n, w, h)
 drawsSheet start (refusedWith n f) streams w h = (refusedWith n f, w, h)
 
+abbrev pub drawsSegment : ℕ → Answer Extent → Answer Timing → List Stream → State → Held → After
+drawsSegment start (did e) (did t) streams w h = drawsFrom (inPeriod start (segment streams t (e .from) (between (e .from) (e .to) (e .media)))) w h
+drawsSegment start (did e) (refused n) streams w h = (refused n, w, h)
+drawsSegment start (did e) (refusedWith n f) streams w h = (refusedWith n f, w, h)
+drawsSegment start (refused n) t streams w h = (refused n, w, h)
+drawsSegment start (refusedWith n f) t streams w h = (refusedWith n f, w, h)
+
 abbrev pub performs : Command → List ℕ → List Stream → State → Held → After
 performs (Follow s m) media streams w h = (follows s m w .0, follows s m w .1, h)
+performs (Leave s) media streams w h = (done (leaves s w .0), leaves s w .1, h)
+performs (Seek t) media streams w h = (done (seeks t w h .0), seeks t w h .1, seeks t w h .2)
+performs (Evict a b) media streams w h = (done (evicts a b w .0), evicts a b w .1, h)
 performs (Play t) media streams w h = (done (plays t w h .0), plays t w h .1, plays t w h .2)
 performs (DrawSheet start from to) media streams w h = drawsSheet start (stretch media from to) streams w h
+performs (DrawSegment start t from to) media streams w h =
+    drawsSegment start (stretch media from to) (timing (t .earliest) (t .offset) (t .«media_ticks») (t .inband) (t .«inband_ticks»)) streams w h

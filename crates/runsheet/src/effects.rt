@@ -4,7 +4,9 @@ ghost use Rattle.event.specs.Numbers.{answer};
 ghost use Rattle.player.specs.State.{state};
 ghost use Rattle.runsheet.specs.Effects.{drawsAll, performs};
 ghost use Rattle.reader.specs.Catalogues.{listed};
+ghost use Rattle.reader.specs.Timings.{timing};
 use crate::commands::Command;
+use crate::commands::Times;
 use event::Feed;
 use event::Refusal;
 use event::Sink;
@@ -15,7 +17,10 @@ use player::Player;
 use player::players::DrawnPartialEq;
 use reader::Catalogue;
 use reader::SheetFeed;
+use reader::SegmentFeed;
+use reader::SegmentReader;
 use reader::SheetReader;
+use reader::Timing;
 use reader::Stretch;
 
 // Draws from a feed until its clean end or a refusal.
@@ -45,8 +50,20 @@ pub fn perform<'a, 'c, S: Sink>(
 {
     match command {
         Command::Follow { stream, mode } => player.follow(stream, mode),
+        Command::Leave { stream } => {
+            player.leave(stream)?;
+            Ok(())
+        }
         Command::Play { to } => {
             player.play(to, sink)?;
+            Ok(())
+        }
+        Command::Seek { to } => {
+            player.seek(to, sink)?;
+            Ok(())
+        }
+        Command::Evict { from, to } => {
+            player.evict(from, to)?;
             Ok(())
         }
         Command::DrawSheet { start, from, to } => {
@@ -54,5 +71,20 @@ pub fn perform<'a, 'c, S: Sink>(
             let mut feed = Period::new(SheetReader::new(stretch, catalogue), start);
             draw_all(player, &mut feed, sink)
         }
+        Command::DrawSegment { start, times, from, to } => {
+            let stretch = Stretch::new(media, from, to)?;
+            let timing = times.timing()?;
+            let mut feed = Period::new(SegmentReader::new(stretch, timing, catalogue), start);
+            draw_all(player, &mut feed, sink)
+        }
+    }
+}
+
+impl Times {
+    // The timing that they give a segment.
+    pub fn timing(self) -> Result<Timing, Refusal>
+        ensures { λ r. ⌜ answer r ≡ timing (self .earliest) (self .offset) (self .«media_ticks») (self .inband) (self .«inband_ticks») ⌝ }
+    {
+        Timing::new(self.earliest, self.offset, self.media_ticks, self.inband, self.inband_ticks)
     }
 }
