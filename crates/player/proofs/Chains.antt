@@ -1,5 +1,5 @@
 -- A chain of calls on values comes to what the calls mean.
-use mathlib.Core.Path.{_≡_, refl, sym, _∙_, ap, subst}
+use mathlib.Core.Path.{_≡_, refl, _∙_, ap, subst}
 use mathlib.Core.Bool.{true}
 use mathlib.Core.List.{List, map}
 use native.Mathlib.Omega.{arith}
@@ -22,7 +22,7 @@ use Rattle.player.proofs.Tallying.{tallied}
 chain-runs : {F S : Type 0} (coming : F → Coming) (held : S → Held) {cs : List (CallOn F)} {p : Player} {s : S} {q : Player} {t : S} →
     Chain coming held cs p s q t → runs (map (meant coming) cs) (seenAs held p s) ≡ seenAs held q t
 chain-runs coming held ends = refl
-chain-runs coming held (then {cs = cs} e r) = ap (runs (map (meant coming) cs)) (sym e) ∙ chain-runs coming held r
+chain-runs coming held (then {cs = cs} a e r) = ap (λ x. runs (map (meant coming) cs) (x .1)) e ∙ chain-runs coming held r
 
 pub stops-no-value : {F G S T : Type 0} (coming : F → Coming) (coming′ : G → Coming) (held : S → Held) (held′ : T → Held) → StopsChangeNoValue coming coming′ held held′
 stops-no-value coming coming′ held held′ n k m f p q s t new new′ cs ds stopped p′ q′ s′ t′ chain chain′ =

@@ -1,7 +1,7 @@
 -- Lists of calls on a player, a sink of any make, and feeds of any make.
 --   meant coming c                a call by what its feed has still to come
 --   seenAs held p s               the world of a player and a sink
---   Chain coming held cs p s q t  the calls, each made on what the one before it left, lead from the player p and the sink s to q and t: each step is what the call's contract says
+--   Chain coming held cs p s q t  the calls, each made on what the one before it left, lead from the player p and the sink s to q and t: at each step answer, player and sink are what the call's contract says
 --   StopsChangeNoValue            for two players and two sinks, with feeds and sinks of different make: a run and the run in stops agree
 --   ValuesHold                    of every chain from a fresh player and an empty sink: a stream that stays followed on start is told each id at most once and its events while active, no kept event is active at the playhead, and each record drawn is counted once
 use Prim.Native.Nat.{ℕ, _+_}
@@ -14,7 +14,7 @@ use Rattle.event.specs.Feeds.{Coming}
 use Rattle.event.specs.Sinks.{Held}
 use Rattle.player.specs.declared.players.Player.{Player}
 use Rattle.player.specs.Once.{Once, noneActive, staysFollowed}
-use Rattle.player.specs.Runs.{Call, CallOn, New, World, after, does, done, world}
+use Rattle.player.specs.Runs.{Answers, Call, CallOn, New, World, after, does, done, world}
 use Rattle.player.specs.Runs.CallOn.{draw, play, seek, follow, leave, evict}
 use Rattle.player.specs.State.{state}
 use Rattle.player.specs.Stops.{Agree, Stopped}
@@ -33,8 +33,8 @@ seenAs held p s = world (state p) (held s)
 
 pub data Chain {F S : Type 0} (coming : F → Coming) (held : S → Held) : List (CallOn F) → Player → S → Player → S → Type 0 where
   ends : {p : Player} {s : S} → Chain coming held [] p s p s
-  then : {c : CallOn F} {cs : List (CallOn F)} {p q r : Player} {s t u : S} →
-      seenAs held q t ≡ after (meant coming c) (seenAs held p s) → Chain coming held cs q t r u → Chain coming held (c ∷ cs) p s r u
+  then : {c : CallOn F} {cs : List (CallOn F)} {p q r : Player} {s t u : S} (a : Answers (meant coming c)) →
+      does (meant coming c) (seenAs held p s) ≡ (a, seenAs held q t) → Chain coming held cs q t r u → Chain coming held (c ∷ cs) p s r u
 
 abbrev pub StopsChangeNoValue : {F G S T : Type 0} → (F → Coming) → (G → Coming) → (S → Held) → (T → Held) → Type 0
 StopsChangeNoValue {F} {G} {S} {T} coming coming′ held held′ =
