@@ -56,8 +56,8 @@ evict bs = cond (leb 18 (length bs)) (Some (Evict (num64 bs 2) (num64 bs 10), 18
 abbrev pub segmentTimes : List ℕ → Option Times
 segmentTimes bs =
     cond (leb 32 (length bs))
-      (Some (record { earliest = num64 bs 0; offset = num64 bs 8; «media_ticks» = num32 bs 16; inband = num64 bs 20; «inband_ticks» = num32 bs 28 }))
-      None
+    (Some (record { earliest = num64 bs 0; offset = num64 bs 8; «media_ticks» = num32 bs 16; inband = num64 bs 20; «inband_ticks» = num32 bs 28 }))
+    None
 
 abbrev pub segmentLength : List ℕ → Option ℕ
 segmentLength bs = cond (leb 34 (length bs) && leb (34 + num16 bs 32) (length bs)) (Some (num16 bs 32)) None

@@ -16,12 +16,12 @@ use player::Drawn;
 use player::Player;
 use player::players::DrawnPartialEq;
 use reader::Catalogue;
-use reader::SheetFeed;
 use reader::SegmentFeed;
 use reader::SegmentReader;
+use reader::SheetFeed;
 use reader::SheetReader;
-use reader::Timing;
 use reader::Stretch;
+use reader::Timing;
 
 // Draws from a feed until its clean end or a refusal.
 pub fn draw_all<F: Feed, S: Sink>(
@@ -71,7 +71,12 @@ pub fn perform<'a, 'c, S: Sink>(
             let mut feed = Period::new(SheetReader::new(stretch, catalogue), start);
             draw_all(player, &mut feed, sink)
         }
-        Command::DrawSegment { start, times, from, to } => {
+        Command::DrawSegment {
+            start,
+            times,
+            from,
+            to,
+        } => {
             let stretch = Stretch::new(media, from, to)?;
             let timing = times.timing()?;
             let mut feed = Period::new(SegmentReader::new(stretch, timing, catalogue), start);
@@ -85,6 +90,12 @@ impl Times {
     pub fn timing(self) -> Result<Timing, Refusal>
         ensures { λ r. ⌜ answer r ≡ timing (self .earliest) (self .offset) (self .«media_ticks») (self .inband) (self .«inband_ticks») ⌝ }
     {
-        Timing::new(self.earliest, self.offset, self.media_ticks, self.inband, self.inband_ticks)
+        Timing::new(
+            self.earliest,
+            self.offset,
+            self.media_ticks,
+            self.inband,
+            self.inband_ticks,
+        )
     }
 }

@@ -71,7 +71,28 @@ fn evict(bytes: &[u8]) -> Option<(Command, u32)>
     ensures value { λ r. ⌜ r ≡ evict (now (bytes .entry)) ⌝ }
     ensures length { λ r. ⌜ Goes r (length (now (bytes .entry))) ⌝ }
 {
-    let [_, _, a0, a1, a2, a3, a4, a5, a6, a7, b0, b1, b2, b3, b4, b5, b6, b7, ..] = bytes else {
+    let [
+        _,
+        _,
+        a0,
+        a1,
+        a2,
+        a3,
+        a4,
+        a5,
+        a6,
+        a7,
+        b0,
+        b1,
+        b2,
+        b3,
+        b4,
+        b5,
+        b6,
+        b7,
+        ..
+    ] = bytes
+    else {
         return None;
     };
     let from = u64::from_be_bytes([*a0, *a1, *a2, *a3, *a4, *a5, *a6, *a7]);
@@ -122,14 +143,57 @@ fn draw_segment(place: u32, bytes: &[u8]) -> Option<(Command, u32)>
     let length = segment_length(fields)?;
     let from = place as usize + 44;
     let to = from + length as usize;
-    Some((Command::DrawSegment { start, times, from, to }, 44 + length as u32))
+    Some((
+        Command::DrawSegment {
+            start,
+            times,
+            from,
+            to,
+        },
+        44 + length as u32,
+    ))
 }
 
 // The times of a segment at the front of the bytes.
 fn segment_times(bytes: &[u8]) -> Option<Times>
     ensures { λ r. ⌜ r ≡ segmentTimes (now (bytes .entry)) ⌝ }
 {
-    let [e0, e1, e2, e3, e4, e5, e6, e7, o0, o1, o2, o3, o4, o5, o6, o7, m0, m1, m2, m3, p0, p1, p2, p3, p4, p5, p6, p7, q0, q1, q2, q3, ..] = bytes else {
+    let [
+        e0,
+        e1,
+        e2,
+        e3,
+        e4,
+        e5,
+        e6,
+        e7,
+        o0,
+        o1,
+        o2,
+        o3,
+        o4,
+        o5,
+        o6,
+        o7,
+        m0,
+        m1,
+        m2,
+        m3,
+        p0,
+        p1,
+        p2,
+        p3,
+        p4,
+        p5,
+        p6,
+        p7,
+        q0,
+        q1,
+        q2,
+        q3,
+        ..
+    ] = bytes
+    else {
         return None;
     };
     Some(Times {
