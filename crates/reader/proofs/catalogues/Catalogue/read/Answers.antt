@@ -27,7 +27,7 @@ returns-in-Break-place c =
     let told = c .in-Break-place .ensures tt in
     let some : eqb (length (left (c .args .stretch) (c .loop-stretch .place))) 0 ≡ false = sym (c .loop-stretch-test .ensures tt ∙ ap (λ b. eqb (length b) 0) (c .left .ensures)) in
     rw (p .1, p .2) (record {
-      lists = stops (c .args .stretch) (c .loop-stretch .all) (c .add .last .self) (c .loop-stretch .place) (c .in-Break-place .field-0 .0) (c .loop-stretch .inv .1) (told .same refl) some (told .lists) ∙ ap allListed (c .loop-stretch .inv .0);
+      lists = stops (c .args .stretch) (c .loop-stretch .all) (c .add .last .self) (c .loop-stretch .place) (c .in-Break-place .field-0 .0) (c .loop-stretch .inv .1) (told .same (refl {a = false})) some (told .lists) ∙ ap allListed (c .loop-stretch .inv .0);
       sound = tt;
       over = tt;
     })
@@ -35,7 +35,7 @@ returns-in-Break-place c =
 pub loop-stretch-again : need.loop-stretch-again
 loop-stretch-again c =
     let some : eqb (length (left (c .args .stretch) (c .loop-stretch .place))) 0 ≡ false = sym (c .loop-stretch-test .ensures tt ∙ ap (λ b. eqb (length b) 0) (c .left .ensures)) in
-    let one = subst (λ s. Listed (c .loop-stretch .place) (c .in-Continue-place .place) (listed (c .loop-stretch .all)) (listed (c .add .last .self)) (listing (left s (c .loop-stretch .place)))) (c .loop-stretch .inv .1) (listed-from _ _ _ _ _ (c .in-Continue-place .ensures tt .lists)) in
+    let one = subst (λ s. Listed (c .loop-stretch .place) (c .in-Continue-place .place) (listed (c .loop-stretch .all)) (listed (c .add .last .self)) (listing (left s (c .loop-stretch .place)))) (c .loop-stretch .inv .1) (listed-from (c .loop-stretch .place) (c .in-Continue-place .place) (listed (c .loop-stretch .all)) (listed (c .add .last .self)) (listing (left (c .loop-stretch .all .stretch) (c .loop-stretch .place))) (c .in-Continue-place .ensures tt .lists)) in
     (at-listed (c .args .stretch) (c .loop-stretch .place) (c .in-Continue-place .place) _ _ some one ∙ c .loop-stretch .inv .0, c .add .ensures .over ∙ c .loop-stretch .inv .1, subst Sound (sym (one .list-is)) (sound-more (listed (c .loop-stretch .all)) (one .one) (c .loop-stretch .inv .2) (one .fine)))
 
 pub returns : need.returns
