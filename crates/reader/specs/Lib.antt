@@ -2,6 +2,7 @@ pub mod BigEndian
 pub mod Boxes
 pub mod Catalogues
 pub mod Emsgs
+pub mod Insides
 pub mod Messages
 pub mod Pairs
 pub mod Readers

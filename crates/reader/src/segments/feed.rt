@@ -1,6 +1,9 @@
 // A segment reader is a feed.
 ghost use mathlib.Core.Path.{_≡_};
+ghost use lib.ListN.{length};
+ghost use Rattle.std.specs.shelf.Lists.{All};
 ghost use Rattle.reader.specs.Catalogues.{listed};
+ghost use Rattle.reader.specs.Insides.{Inside};
 ghost use Rattle.reader.specs.SegmentWalks.{coming as comes, segment};
 ghost use Rattle.reader.specs.Stretches.{part};
 use super::Segment;
@@ -12,13 +15,14 @@ use event::Feed;
 use event::Look;
 
 impl<'a> SegmentReader<'a> {
-    // A reader of the segment in a stretch, whose times count so, with the streams of a catalogue.
+    // A reader of the segment in a stretch, whose times count so, with the streams of a catalogue. Its events' messages stand in the stretch.
     pub fn new(
         stretch: Stretch<'a>,
         timing: Timing,
         catalogue: &'a Catalogue<'a>,
     ) -> SegmentReader<'a>
-        ensures { λ r. ⌜ comes r ≡ segment (listed (now (catalogue .entry))) timing (stretch .entry .from) (part (stretch .entry)) ⌝ }
+        ensures coming { λ r. ⌜ comes r ≡ segment (listed (now (catalogue .entry))) timing (stretch .entry .from) (part (stretch .entry)) ⌝ }
+        ensures places { λ r. ⌜ All (Inside (stretch .entry .from) (length (part (stretch .entry)))) (comes r .records) ⌝ }
     {
         let segment = Segment {
             stretch,
