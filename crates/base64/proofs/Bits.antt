@@ -6,9 +6,6 @@ use native.Mathlib.Omega.{arith}
 use Rattle.std.proofs.shelf.Bits.{div-add-mod'}
 use Rattle.base64.specs.Texts.{joined, packed}
 
-pub joined-below : (a b c d : ℕ) → a < 64 → b < 64 → c < 64 → d < 64 → joined a b c d < 16777216
-joined-below a b c d ha hb hc hd = omega arith
-
 pub packed-below : (a b c : ℕ) → a < 256 → b < 256 → c < 256 → packed a b c < 16777216
 packed-below a b c ha hb hc = omega arith
 

@@ -1,8 +1,8 @@
 -- How many bytes a text stands for, and how many characters bytes take.
-use Prim.Native.Nat.{ℕ, suc, _+_, _-_, _*_, _/_, _<_}
+use Prim.Native.Nat.{ℕ, suc, _+_, _-_, _*_, _/_}
 use mathlib.Core.Bool.{Bool, true, false, cond}
 use mathlib.Core.List.{List, [], _∷_, append-nil}
-use mathlib.Core.Path.{_≡_, refl, sym, ap, _∙_}
+use mathlib.Core.Path.{_≡_, refl, ap, _∙_}
 use native.Mathlib.Omega.{arith}
 use lib.Dec.{eqb}
 use lib.ListN.{length, getD}
@@ -34,6 +34,7 @@ further : (a b c d e f : ℕ) (rest : List ℕ) → pads (a ∷ b ∷ c ∷ d �
 further a b c d e f rest = rw (last (length rest), last-but-one (length rest))
 
 pub sized : (xs : List ℕ) → accepted xs ≡ true → length (decoded xs) + pads xs ≡ length xs / 4 * 3
+unfolding accepted decoded
 sized [] h = refl
 sized (a ∷ []) h = absurd (false≢true h)
 sized (a ∷ b ∷ []) h = absurd (false≢true h)
@@ -47,6 +48,7 @@ sized (a ∷ b ∷ c ∷ d ∷ e ∷ f ∷ rest) h =
     omega (arith, ih, further a b c d e f rest, three a b c d on, length-append (group a b c d) (decoded (e ∷ f ∷ rest)))
 
 pub encoded-sized : (xs : List ℕ) → length (encoded xs) ≡ (length xs + 2) / 3 * 4
+unfolding encoded
 encoded-sized [] = refl
 encoded-sized (a ∷ []) = refl
 encoded-sized (a ∷ b ∷ []) = refl

@@ -1,16 +1,15 @@
 -- Decoding undoes encoding.
-use Prim.Native.Nat.{ℕ, _+_, _*_, _/_, _%_, _<_}
-use mathlib.Core.Bool.{Bool, true, false, cond, _&&_, _||_}
+use Prim.Native.Nat.{ℕ, _+_, _/_, _%_, _<_}
+use mathlib.Core.Bool.{true, false}
 use mathlib.Core.List.{List, [], _∷_, _++_}
 use mathlib.Core.Path.{_≡_, refl, sym, ap, _∙_}
 use native.Mathlib.Omega.{arith}
 use lib.Dec.{eqb}
-use lib.ListN.{take}
 use Rattle.std.proofs.shelf.Tests.{cond-false, eq-eqb, lt-ltb}
 use Rattle.std.specs.shelf.Lists.{All}
 use Rattle.base64.specs.Alphabet.{digit, padding, value}
 use Rattle.base64.specs.Laws.{Byte, Undone}
-use Rattle.base64.specs.Texts.{accepted, bytes, decoded, digits, encoded, full, group, joined, known, packed, padded}
+use Rattle.base64.specs.Texts.{accepted, octets, decoded, encoded, full, group, joined, known, packed, padded}
 use Rattle.base64.proofs.Bits.{joined-digits, packed-below, first-byte, second-byte, third-byte}
 use Rattle.base64.proofs.Digits.{value-digit, unpadded}
 use Rattle.base64.proofs.Fours.{goes-on}
@@ -35,18 +34,20 @@ module _ (n : ℕ) where
   full-digits : full (digit w) (digit x) (digit y) (digit z) ≡ true
   full-digits = rw (known-digit w (omega arith), known-digit x (omega arith), known-digit y (omega arith), known-digit z (omega arith))
 
-  group-digits : n < 16777216 → group (digit w) (digit x) (digit y) (digit z) ≡ bytes n
+  group-digits : n < 16777216 → group (digit w) (digit x) (digit y) (digit z) ≡ octets n
   group-digits h =
       cond-false _ _ _ (unpadded (digit z) (known-digit z (omega arith)))
       ∙ rw (value-digit w (omega arith), value-digit x (omega arith), value-digit y (omega arith), value-digit z (omega arith), joined-digits n h)
 
-bytes-packed : (a b c : ℕ) → a < 256 → b < 256 → c < 256 → bytes (packed a b c) ≡ a ∷ b ∷ c ∷ []
+bytes-packed : (a b c : ℕ) → a < 256 → b < 256 → c < 256 → octets (packed a b c) ≡ a ∷ b ∷ c ∷ []
 bytes-packed a b c ha hb hc = rw (first-byte a b c ha hb hc, second-byte a b c ha hb hc, third-byte a b c ha hb hc)
 
 closed : (a b c d : ℕ) → padded a b c d ≡ true → accepted (a ∷ b ∷ c ∷ d ∷ []) ≡ true
+unfolding accepted
 closed a b c d e = grind (arith)
 
 undone-one : (a : ℕ) → a < 256 → Undone (a ∷ [])
+unfolding accepted decoded encoded
 undone-one a h =
     let n : ℕ = packed a 0 0 in
     let small = packed-below a 0 0 h (omega arith) (omega arith) in
@@ -63,6 +64,7 @@ undone-one a h =
     )
 
 undone-two : (a b : ℕ) → a < 256 → b < 256 → Undone (a ∷ b ∷ [])
+unfolding accepted decoded encoded
 undone-two a b ha hb =
     let n : ℕ = packed a b 0 in
     let small = packed-below a b 0 ha hb (omega arith) in
@@ -81,6 +83,7 @@ undone-two a b ha hb =
     )
 
 pub undone : (bs : List ℕ) → All Byte bs → Undone bs
+unfolding accepted decoded encoded
 undone [] h = (refl, refl)
 undone (a ∷ []) h = undone-one a (h .0)
 undone (a ∷ b ∷ []) h = undone-two a b (h .0) (h .1 .0)

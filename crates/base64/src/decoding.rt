@@ -7,7 +7,7 @@ ghost use Rattle.event.specs.Fronts.{front};
 ghost use Rattle.event.specs.Numbers.{answer};
 ghost use Rattle.base64.specs.Calls.{decodes};
 ghost use Rattle.base64.specs.Laws.{Exact, Restored};
-ghost use Rattle.base64.specs.Texts.{accepted, bytes, decoded, group, joined};
+ghost use Rattle.base64.specs.Texts.{accepted, decoded, group, joined, octets};
 use crate::alphabet::value;
 use crate::texts::is_text;
 use event::Defect;
@@ -15,7 +15,7 @@ use event::Refusal;
 
 // The three bytes of four numbers of 6 bits.
 fn three(a: u8, b: u8, c: u8, d: u8) -> [u8; 3]
-    ensures { λ r. ⌜ r ≡ bytes (joined a b c d) ⌝ }
+    ensures { λ r. ⌜ r ≡ octets (joined a b c d) ⌝ }
 {
     let n = ((u32::from(a) * 64 + u32::from(b)) * 64 + u32::from(c)) * 64 + u32::from(d);
     let [_, x, y, z] = n.to_be_bytes();

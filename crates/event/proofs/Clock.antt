@@ -1,6 +1,11 @@
 -- A time is known by its milliseconds.
-use Prim.Native.Nat.{ℕ, min, _≤_}
-use mathlib.Core.Path.{_≡_}
+use Prim.Native.Nat.{ℕ, min, _≤_, _<_}
+use mathlib.Core.Path.{_≡_, ap, _∙_}
+use mathlib.Core.Bool.{cond}
+use mathlib.Core.Logic.{inl, inr}
+use lib.Dec.{leb}
+use Rattle.std.specs.declared.option.Option.the-variants.{Some, None}
+use Rattle.std.proofs.shelf.Tests.{cases-bool, leb-true, leb-false}
 use mathlib.Core.HLevel.{isProp→PathP}
 use native.Mathlib.Bridge.{le-prop}
 use native.Mathlib.Omega.{arith}
@@ -22,3 +27,28 @@ time-of t n h e = let k : t .ms ≡ time n .ms = omega arith in known-by-ms t (t
 
 pub time-ms : (t : Time) → time (t .ms) ≡ t
 time-ms t = let b = t .bounded in let k : time (t .ms) .ms ≡ t .ms = omega arith in known-by-ms (time (t .ms)) t k
+
+-- what a time that was made tells of its milliseconds
+pub made-some : (n : ℕ) (t : Time) → Some t ≡ cond (leb n latest) (Some (time n)) None → (n ≤ latest) × (t .ms ≡ n)
+made-some n t e =
+    elim (cases-bool (leb n latest)) [
+      | inl y ↦
+          let l : n ≤ latest = leb-true n latest y in
+          let s : Some t ≡ Some (time n) = rw y at e in
+          let q : t ≡ time n = cc in
+          (l, ap (λ u. u .ms) q ∙ ms-time n l)
+      | inr f ↦
+          let s : Some t ≡ None = rw f at e in
+          let z : _≡_ {A = ℕ} 0 1 = cc in
+          absurd (omega arith)
+    ]
+
+pub made-none : (n : ℕ) → None ≡ cond (leb n latest) (Some (time n)) None → latest < n
+made-none n e =
+    elim (cases-bool (leb n latest)) [
+      | inl y ↦
+          let s : None ≡ Some (time n) = rw y at e in
+          let z : _≡_ {A = ℕ} 0 1 = cc in
+          absurd (omega arith)
+      | inr f ↦ leb-false n latest f
+    ]

@@ -1,5 +1,6 @@
 pub mod BigEndian
 pub mod Boxes
+pub mod CatalogueWalks
 pub mod Catalogues
 pub mod Emsgs
 pub mod Insides

@@ -1,7 +1,6 @@
 -- Streams, each named by a pair of scheme and value.
 --   Stream            a scheme and a value
 --   stream p          the stream that a pair names
---   lettered o        the stream that a pair names, where there is one
 --   front a b bs      the strings of a and b bytes at the front of bs
 --   fronted a b bs    those, where bs is long enough
 --   marked a b bs     the bytes begin with the two-byte mark a b
@@ -26,10 +25,6 @@ pub record Stream : Type 0 where
 
 abbrev pub stream : Pair → Stream
 stream p = record { scheme = p .scheme .now; value = p .value .now }
-
-abbrev pub lettered : Option Pair → Option Stream
-lettered None = None
-lettered (Some p) = Some (stream p)
 
 abbrev pub front : ℕ → ℕ → List ℕ → Stream
 front a b bs = record { scheme = take a bs; value = take b (drop a bs) }

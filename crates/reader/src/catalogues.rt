@@ -9,12 +9,14 @@ ghost use Rattle.std.specs.Results.{isOk};
 ghost use Rattle.event.specs.Numbers.{answer};
 ghost use Rattle.reader.specs.Catalogues.{added, behind, ends, flaw, listed, named, number, sought};
 ghost use Rattle.reader.specs.Pairs.{listing, stream};
-ghost use Rattle.reader.specs.Stretches.{extent, left};
+ghost use Rattle.reader.specs.Stretches.{left};
 use crate::pairs::Pair;
 use crate::stretches::Stretch;
 use crate::stretches::cut;
 use event::Refusal;
 use event::StreamCount;
+
+pub mod reading;
 
 // Where a listed pair stands: the places where its scheme and its value begin, and where the value ends.
 #[derive(Clone, Copy)]
@@ -59,7 +61,7 @@ impl<'a> Catalogue<'a> {
     // No stream of the stretch is listed yet.
     pub fn new(stretch: Stretch<'a>) -> Catalogue<'a>
         ensures listed { λ r. ⌜ listed r ≡ [] ⌝ }
-        ensures over { λ r. ⌜ extent (r .stretch) ≡ extent (stretch .entry) ⌝ }
+        ensures over { λ r. ⌜ r .stretch ≡ stretch .entry ⌝ }
     {
         let none = Entry {
             scheme: 0,

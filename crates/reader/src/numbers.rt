@@ -5,7 +5,7 @@ ghost use lib.ListN.{length};
 ghost use Rattle.reader.specs.BigEndian.{num32, num64};
 
 // The number of the four bytes from a place on.
-pub fn u32_at(bytes: &[u8], at: usize) -> u32
+pub(crate) fn u32_at(bytes: &[u8], at: usize) -> u32
     requires { ⌜ at + 4 ≤ length (now bytes) ⌝ }
     ensures { λ r. ⌜ r ≡ num32 (now (bytes .entry)) at ⌝ }
 {
@@ -13,7 +13,7 @@ pub fn u32_at(bytes: &[u8], at: usize) -> u32
 }
 
 // The number of the eight bytes from a place on.
-pub fn u64_at(bytes: &[u8], at: usize) -> u64
+pub(crate) fn u64_at(bytes: &[u8], at: usize) -> u64
     requires { ⌜ at + 8 ≤ length (now bytes) ⌝ }
     ensures { λ r. ⌜ r ≡ num64 (now (bytes .entry)) at ⌝ }
 {

@@ -1,7 +1,8 @@
 // A pair of scheme and value, which names a stream.
 ghost use mathlib.Core.Path.{_≡_};
+ghost use Rattle.std.specs.Options.{mapped};
 ghost use Rattle.std.specs.shelf.Text.{sameBytes};
-ghost use Rattle.reader.specs.Pairs.{blank, fronted, lettered, listing, proper, same, stream};
+ghost use Rattle.reader.specs.Pairs.{blank, fronted, listing, proper, same, stream};
 
 // The two strings, as they stand in the media buffer.
 #[derive(Clone, Copy)]
@@ -12,8 +13,8 @@ pub struct Pair<'a> {
 
 impl<'a> Pair<'a> {
     // The strings of these lengths that stand at the front of the bytes, unless they are cut.
-    pub fn front(bytes: &'a [u8], scheme: u8, value: u8) -> Option<Pair<'a>>
-        ensures { λ r. ⌜ lettered r ≡ fronted scheme value (now (bytes .entry)) ⌝ }
+    pub(crate) fn front(bytes: &'a [u8], scheme: u8, value: u8) -> Option<Pair<'a>>
+        ensures { λ r. ⌜ mapped stream r ≡ fronted scheme value (now (bytes .entry)) ⌝ }
     {
         let middle = scheme as usize;
         let end = middle + value as usize;
@@ -27,8 +28,8 @@ impl<'a> Pair<'a> {
     }
 
     // The pair that an `SV` record at the front of the bytes lists, unless the mark is another or the record is cut.
-    pub fn listed(bytes: &'a [u8]) -> Option<Pair<'a>>
-        ensures { λ r. ⌜ lettered r ≡ listing (now (bytes .entry)) ⌝ }
+    pub(crate) fn listed(bytes: &'a [u8]) -> Option<Pair<'a>>
+        ensures { λ r. ⌜ mapped stream r ≡ listing (now (bytes .entry)) ⌝ }
     {
         match bytes {
             [b'S', b'V', scheme, value, rest @ ..] => Pair::front(rest, *scheme, *value),
@@ -37,14 +38,14 @@ impl<'a> Pair<'a> {
     }
 
     // Both strings are the same, byte for byte.
-    pub fn is(self, other: Pair) -> bool
+    pub(crate) fn is(self, other: Pair) -> bool
         ensures { λ r. ⌜ r ≡ same (stream (self .entry)) (stream (other .entry)) ⌝ }
     {
         alike(self.scheme, other.scheme) && alike(self.value, other.value)
     }
 
     // The scheme is not empty, and neither string holds a 0 byte.
-    pub fn is_proper(self) -> bool
+    pub(crate) fn is_proper(self) -> bool
         ensures { λ r. ⌜ r ≡ proper (stream (self .entry)) ⌝ }
     {
         !self.scheme.is_empty() && !holds_zero(self.scheme) && !holds_zero(self.value)

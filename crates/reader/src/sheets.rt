@@ -4,10 +4,10 @@ use crate::stretches::Stretch;
 use crate::timescales::Timescale;
 use event::Look;
 
-pub mod events;
+mod events;
 pub mod feed;
-pub mod records;
-pub mod turns;
+mod records;
+mod turns;
 
 // What the latest `ES` record says: how its events count time, and the number of their stream, if it is listed.
 #[derive(Clone, Copy)]
@@ -19,16 +19,16 @@ pub struct EventStream {
 
 // A sheet, the place that a walk over it has come to, and the event stream that governs there.
 #[derive(Clone, Copy)]
-pub struct Sheet<'a> {
+pub struct Sheet<'a, 'c> {
     stretch: Stretch<'a>,
-    catalogue: &'a Catalogue<'a>,
+    catalogue: &'c Catalogue<'a>,
     place: u32,
     stream: Option<EventStream>,
 }
 
 // A feed of a sheet's events: what is next, and the sheet behind it.
 #[derive(Clone, Copy)]
-pub struct SheetReader<'a> {
-    sheet: Sheet<'a>,
+pub struct SheetReader<'a, 'c> {
+    sheet: Sheet<'a, 'c>,
     ready: Look,
 }

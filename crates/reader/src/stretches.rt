@@ -38,7 +38,7 @@ impl<'a> Stretch<'a> {
     }
 
     // The bytes from a place on.
-    pub(crate) fn left(&self, place: u32) -> &'a [u8]
+    pub fn left(&self, place: u32) -> &'a [u8]
         ensures { λ r. ⌜ now r ≡ left (now (self .entry)) place ⌝ }
     {
         cut(self.media, place, self.to)

@@ -1,9 +1,7 @@
 // A segment reader is a feed.
 ghost use mathlib.Core.Path.{_≡_};
-ghost use lib.ListN.{length};
-ghost use Rattle.std.specs.shelf.Lists.{All};
 ghost use Rattle.reader.specs.Catalogues.{listed};
-ghost use Rattle.reader.specs.Insides.{Inside};
+ghost use Rattle.reader.specs.Insides.{AllInside};
 ghost use Rattle.reader.specs.SegmentWalks.{coming as comes, segment};
 ghost use Rattle.reader.specs.Stretches.{part};
 use super::Segment;
@@ -14,15 +12,15 @@ use crate::timings::Timing;
 use event::Feed;
 use event::Look;
 
-impl<'a> SegmentReader<'a> {
+impl<'a, 'c> SegmentReader<'a, 'c> {
     // A reader of the segment in a stretch, whose times count so, with the streams of a catalogue. Its events' messages stand in the stretch.
     pub fn new(
         stretch: Stretch<'a>,
         timing: Timing,
-        catalogue: &'a Catalogue<'a>,
-    ) -> SegmentReader<'a>
+        catalogue: &'c Catalogue<'a>,
+    ) -> SegmentReader<'a, 'c>
         ensures coming { λ r. ⌜ comes r ≡ segment (listed (now (catalogue .entry))) timing (stretch .entry .from) (part (stretch .entry)) ⌝ }
-        ensures places { λ r. ⌜ All (Inside (stretch .entry .from) (length (part (stretch .entry)))) (comes r .records) ⌝ }
+        ensures inside { λ r. ⌜ AllInside (stretch .entry .from) (stretch .entry .to) (comes r) ⌝ }
     {
         let segment = Segment {
             stretch,
@@ -34,7 +32,7 @@ impl<'a> SegmentReader<'a> {
     }
 }
 
-pub impl<'a> Feed for SegmentReader<'a> as SegmentFeed {
+pub impl<'a, 'c> Feed for SegmentReader<'a, 'c> as SegmentFeed {
     ghost coming = { comes };
 
     fn look(&self) -> Look {

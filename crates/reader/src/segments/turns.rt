@@ -26,7 +26,7 @@ use event::Layer;
 use event::Look;
 use event::Message;
 
-impl<'a> Segment<'a> {
+impl<'a, 'c> Segment<'a, 'c> {
     // A fault of the box at the place.
     fn broken(self, defect: Defect) -> Turn<Event, Fault, ()>
         ensures { λ r. ⌜ r ≡ Broken (fault (self .entry .place) defect) ⌝ }
@@ -78,7 +78,7 @@ impl<'a> Segment<'a> {
     }
 
     // Walks to the next event or to the ending, and has it ready.
-    pub fn advance(self) -> SegmentReader<'a>
+    pub(crate) fn advance(self) -> SegmentReader<'a, 'c>
         ensures { λ r. ⌜ coming r ≡ behind (self .entry) ⌝ }
     {
         let mut segment = self;

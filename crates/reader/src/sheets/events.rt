@@ -20,7 +20,7 @@ use event::Time;
 
 impl EsRecord<'_> {
     // The event stream that the record opens, unless its timescale is none.
-    pub fn open(self, catalogue: &Catalogue) -> Option<EventStream>
+    pub(crate) fn open(self, catalogue: &Catalogue) -> Option<EventStream>
         ensures { λ r. ⌜ r ≡ cond (isTimescale (es (self .entry) .timescale)) (Some (opened (listed (now (catalogue .entry))) (es (self .entry)))) None ⌝ }
     {
         let timescale = Timescale::new(self.timescale)?;
@@ -96,7 +96,7 @@ impl EvRecord<'_> {
     }
 
     // The event of the record under an event stream, with its message at a place, or what is wrong.
-    pub fn event(self, stream: EventStream, place: u32) -> Result<Event, Defect>
+    pub(crate) fn event(self, stream: EventStream, place: u32) -> Result<Event, Defect>
         ensures { λ r. ⌜ r ≡ eventOf stream place (ev (self .entry)) ⌝ }
     {
         if !self.flags_fit() {

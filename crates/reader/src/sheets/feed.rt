@@ -1,6 +1,7 @@
 // A sheet reader is a feed.
 ghost use mathlib.Core.Path.{_≡_};
 ghost use Rattle.reader.specs.Catalogues.{listed};
+ghost use Rattle.reader.specs.Insides.{AllInside};
 ghost use Rattle.reader.specs.SheetWalks.{coming as comes, sheet};
 ghost use Rattle.reader.specs.Stretches.{part};
 use super::Sheet;
@@ -10,10 +11,11 @@ use crate::stretches::Stretch;
 use event::Feed;
 use event::Look;
 
-impl<'a> SheetReader<'a> {
+impl<'a, 'c> SheetReader<'a, 'c> {
     // A reader of the sheet in a stretch, with the streams of a catalogue.
-    pub fn new(stretch: Stretch<'a>, catalogue: &'a Catalogue<'a>) -> SheetReader<'a>
-        ensures { λ r. ⌜ comes r ≡ sheet (listed (now (catalogue .entry))) (stretch .entry .from) (part (stretch .entry)) ⌝ }
+    pub fn new(stretch: Stretch<'a>, catalogue: &'c Catalogue<'a>) -> SheetReader<'a, 'c>
+        ensures coming { λ r. ⌜ comes r ≡ sheet (listed (now (catalogue .entry))) (stretch .entry .from) (part (stretch .entry)) ⌝ }
+        ensures inside { λ r. ⌜ AllInside (stretch .entry .from) (stretch .entry .to) (comes r) ⌝ }
     {
         let sheet = Sheet {
             stretch,
@@ -25,7 +27,7 @@ impl<'a> SheetReader<'a> {
     }
 }
 
-pub impl<'a> Feed for SheetReader<'a> as SheetFeed {
+pub impl<'a, 'c> Feed for SheetReader<'a, 'c> as SheetFeed {
     ghost coming = { comes };
 
     fn look(&self) -> Look {

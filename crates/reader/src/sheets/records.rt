@@ -15,7 +15,7 @@ pub struct EsRecord<'a> {
 
 impl<'a> EsRecord<'a> {
     // The record at the front of the bytes, unless the mark is another or the record is cut.
-    pub fn read(bytes: &'a [u8]) -> Option<EsRecord<'a>>
+    pub(crate) fn read(bytes: &'a [u8]) -> Option<EsRecord<'a>>
         ensures { λ r. ⌜ mapped es r ≡ esRecord (now (bytes .entry)) ⌝ }
     {
         let [
@@ -63,7 +63,7 @@ pub struct EvRecord<'a> {
 
 impl<'a> EvRecord<'a> {
     // The record at the front of the bytes, unless the mark is another or the record is cut.
-    pub fn read(bytes: &'a [u8]) -> Option<EvRecord<'a>>
+    pub(crate) fn read(bytes: &'a [u8]) -> Option<EvRecord<'a>>
         ensures { λ r. ⌜ mapped ev r ≡ evRecord (now (bytes .entry)) ⌝ }
     {
         let [

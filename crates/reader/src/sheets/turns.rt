@@ -19,7 +19,7 @@ use event::Fault;
 use event::Layer;
 use event::Look;
 
-impl<'a> Sheet<'a> {
+impl<'a, 'c> Sheet<'a, 'c> {
     // A fault of the record at the place.
     fn broken(self, defect: Defect) -> Turn<Event, Fault, Option<EventStream>>
         ensures { λ r. ⌜ r ≡ Broken (fault (self .entry .place) defect) ⌝ }
@@ -72,7 +72,7 @@ impl<'a> Sheet<'a> {
     }
 
     // Walks to the next event or to the ending, and has it ready.
-    pub fn advance(self) -> SheetReader<'a>
+    pub(crate) fn advance(self) -> SheetReader<'a, 'c>
         ensures { λ r. ⌜ coming r ≡ behind (self .entry) ⌝ }
     {
         let mut sheet = self;

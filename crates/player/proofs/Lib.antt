@@ -1,0 +1,9 @@
+pub mod Prefixes
+pub mod InOrder
+pub mod Fronts
+pub mod Soundness
+pub mod Drawing
+pub mod Sorting
+pub mod Telling
+pub mod Reaching
+pub mod Playing

@@ -1,0 +1,10 @@
+pub mod Draws
+pub mod Elements
+pub mod Follows
+pub mod Leaves
+pub mod Plays
+pub mod Rows
+pub mod Seeks
+pub mod Sound
+pub mod State
+pub mod Tables
