@@ -1,5 +1,7 @@
 -- The boxes of a segment.
 --   kind bs        the type of the box at the front of bs, where it is there
+--   largeSize bs   its size behind its type, where that is there
+--   sizeBy n bs    how it says its size, where its first number is n
 --   sizeOf bs      how that box says its size: a u32 at its front; 1 where a u64 behind its type says it, 0 where it reaches to the end
 --   head z         the length of its head
 --   span z n       its size, where n bytes are left
@@ -7,6 +9,8 @@
 --   body z bs      what stands behind its head
 --   version bs     the version at the front of a body, where the flags behind it are there too
 --   emsg           the type `emsg`
+--   judgedBy v     what a reader does with an emsg box of such a version
+--   typed k v      the same of a box of such a type
 --   judged z n k v   what a reader does with a box: 7 where its size is bad; an emsg box without version and flags is 8;
 --                  one of version 0 or 1 gives a record; every other box is stepped over
 use Prim.Native.Nat.{ℕ}

@@ -1,4 +1,6 @@
 -- The walk over a segment.
+--   SegmentTurn         a turn over a box; a walk over a segment has no state
+--   boxGives at k r     a box of k bytes at a place that gives an event, or what is wrong with it
 --   emsgTurn ts t v at k o   an emsg box of k bytes at a place, whose fields are o: it gives its event, or 8 where the fields do not fit, or what is wrong with the event;
 --                       the message is what is left at the box's end
 --   boxTurn ts t at z bs u   a box at a place, by what a reader does with it

@@ -1,7 +1,9 @@
 -- What the emsg boxes of a segment give.
 --   lasting s d        a duration of d ticks, where a second has s: unknown at 0xFFFFFFFF, and 10 where it is past the latest time
+--   spanned o t        start and duration, where neither is wrong
 --   spanIn s t v e     start and duration, where a second has s ticks: 10 where the box's time or a known duration is past the latest time, then as for its start
 --   spanOf t v e       the same in the box's own timescale; 6 where that is none
+--   evented ts t m e s   the event of that start and duration
 --   eventOf ts t v m e   the event of a box with a message m; its stream is numbered in the list ts
 use Prim.Native.Nat.{ℕ}
 use mathlib.Core.Bool.{cond}

@@ -4,11 +4,11 @@ use crate::stretches::Stretch;
 use crate::timings::Timing;
 use event::Look;
 
-pub mod boxes;
-pub mod emsgs;
-pub mod events;
+mod boxes;
+mod emsgs;
+mod events;
 pub mod feed;
-pub mod turns;
+mod turns;
 
 // A segment, how its times count, and the place that a walk over it has come to.
 #[derive(Clone, Copy)]

@@ -2,12 +2,16 @@
 --   laid r         its bytes: the mark DL, flags, stream, position, start, duration, id, place, length
 --   marked bs      40 bytes are there, and the first two are the mark
 --   recordAt bs    the record at the front of bytes
---   flags          1 duration known, 2 id present, 4 base64, 8 on start
 --   has k n        whether the flag k is among the flags n
+--   onStart t      whether a dispatch was told on start
+--   flagsOf d      the flags of a dispatch: 1 duration known, 2 id present, 4 base64, 8 on start
+--   milliseconds o a duration, or 0 where it is not known
+--   orZero o       an id, or 0 where there is none
 --   recordOf d     a dispatch as a record: fields that it has not are 0
 --   flagged r      no other flag, and each unflagged field is 0
 --   inTime r       no time past the latest
 --   dispatchIn r   the dispatch of a record
+--   checked r      the dispatch, or what is wrong with the record: 13, then 10
 --   readRecord bs  the dispatch at the front of bytes, or what is wrong there: 11, then 13, then 10
 use Prim.Native.Nat.{ℕ}
 use mathlib.Core.Bool.{Bool, true, false, cond, not, _&&_, _||_}

@@ -37,7 +37,7 @@ fn large(bytes: &[u8]) -> Size
 }
 
 // The type of the box at the front of the bytes, unless it is cut.
-pub fn kind(bytes: &[u8]) -> Option<u32>
+pub(crate) fn kind(bytes: &[u8]) -> Option<u32>
     ensures { λ r. ⌜ r ≡ kind (now (bytes .entry)) ⌝ }
 {
     if bytes.len() < 8 {
@@ -48,7 +48,7 @@ pub fn kind(bytes: &[u8]) -> Option<u32>
 
 impl Size {
     // How the box at the front of the bytes says its size.
-    pub fn of(bytes: &[u8]) -> Size
+    pub(crate) fn of(bytes: &[u8]) -> Size
         ensures { λ r. ⌜ r ≡ sizeOf (now (bytes .entry)) ⌝ }
     {
         if bytes.len() < 8 {
@@ -72,7 +72,7 @@ impl Size {
     }
 
     // The box's size, where so many bytes are left.
-    pub fn span(self, left: usize) -> usize
+    pub(crate) fn span(self, left: usize) -> usize
         ensures { λ r. ⌜ r ≡ span self left ⌝ }
     {
         match self {
@@ -84,7 +84,7 @@ impl Size {
     }
 
     // What stands behind the head of the box at the front of the bytes, as far as it is there.
-    pub fn body(self, bytes: &[u8]) -> &[u8]
+    pub(crate) fn body(self, bytes: &[u8]) -> &[u8]
         ensures { λ r. ⌜ now r ≡ body self (now (bytes .entry)) ⌝ }
     {
         let end = bytes.len().min(self.span(bytes.len()));
@@ -94,7 +94,7 @@ impl Size {
 }
 
 // The version at the front of a body, unless it or the flags behind it are cut.
-pub fn version(body: &[u8]) -> Option<u8>
+pub(crate) fn version(body: &[u8]) -> Option<u8>
     ensures { λ r. ⌜ r ≡ version (now (body .entry)) ⌝ }
 {
     match body {
@@ -104,7 +104,7 @@ pub fn version(body: &[u8]) -> Option<u8>
 }
 
 // What a reader does with a box of such a size, where so many bytes are left, of such a type and version.
-pub fn judge(size: Size, left: usize, kind: Option<u32>, version: Option<u8>) -> Use
+pub(crate) fn judge(size: Size, left: usize, kind: Option<u32>, version: Option<u8>) -> Use
     ensures { λ r. ⌜ r ≡ judged size left kind version ⌝ }
 {
     match (size, kind, version) {

@@ -116,7 +116,7 @@ impl<'a> EmsgFields<'a> {
     }
 
     // The fields of a version, unless they do not fit the bytes.
-    pub fn read(version: Version, bytes: &'a [u8]) -> Option<EmsgFields<'a>>
+    pub(crate) fn read(version: Version, bytes: &'a [u8]) -> Option<EmsgFields<'a>>
         ensures { λ r. ⌜ mapped fields r ≡ emsgOf version (now (bytes .entry)) ⌝ }
     {
         match version {

@@ -54,7 +54,7 @@ impl EmsgFields<'_> {
     }
 
     // The event of the box, with a message, or what is wrong.
-    pub fn event(
+    pub(crate) fn event(
         self,
         version: Version,
         timing: Timing,

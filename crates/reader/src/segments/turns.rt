@@ -78,7 +78,7 @@ impl<'a, 'c> Segment<'a, 'c> {
     }
 
     // Walks to the next event or to the ending, and has it ready.
-    pub fn advance(self) -> SegmentReader<'a, 'c>
+    pub(crate) fn advance(self) -> SegmentReader<'a, 'c>
         ensures { λ r. ⌜ coming r ≡ behind (self .entry) ⌝ }
     {
         let mut segment = self;
