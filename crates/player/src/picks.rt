@@ -99,7 +99,7 @@ pub impl Test<UsedId> for InStream as UsedInStream {
     ghost passing = { λ t. usedIn (t .stream) };
 
     fn passes(&self, x: UsedId) -> bool {
-        x.stream == self.stream
+        self.stream == x.stream
     }
 }
 

@@ -3,6 +3,7 @@ pub mod commands;
 pub mod effects;
 pub mod lines;
 pub mod sheets;
+pub mod worked;
 
 pub use commands::Command;
 pub use effects::perform;
