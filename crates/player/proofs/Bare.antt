@@ -27,15 +27,15 @@ use Rattle.event.specs.Spans.{ended}
 use Rattle.event.specs.Times.{latest, time}
 use Rattle.player.specs.declared.elements.Kept.{Kept}
 use Rattle.player.specs.declared.elements.UsedId.{UsedId}
-use Rattle.player.specs.Draws.{Outcome, drawsAt, inModeOf, keeps, known, knownAs, marked, nameOf, noIdPlace, onStart, receivesIn, telling, tellsNow, withUsed}
-use Rattle.player.specs.Elements.{dispatched, earlier, hasId, keptOf, named, starts}
+use Rattle.player.specs.Draws.{Outcome, drawsAt, inModeOf, keeps, known, knownAs, marked, noIdPlace, onStart, receivesIn, telling, tellsNow, withUsed}
+use Rattle.player.specs.Elements.{activeAt, dispatched, earlier, hasId, keptOf, nameOf, named, starts}
 use Rattle.player.specs.Evicts.{arrivedIn}
 use Rattle.player.specs.Follows.{isOff, modeOf}
 use Rattle.player.specs.Leaves.{keptIn}
 use Rattle.player.specs.Plays.{due, markedAll, moved, reach, reachBefore, startOf, startsIn, toldBy, toldTo}
 use Rattle.player.specs.Runs.{Call, World, after, runs, world}
 use Rattle.player.specs.Runs.CallOn.{draw, play, seek, follow, leave, evict}
-use Rattle.player.specs.Seeks.{activeAt, atTime}
+use Rattle.player.specs.Seeks.{atTime}
 use Rattle.player.specs.State.{State, ids}
 use Rattle.player.specs.Stops.{Alike, Same, bareDispatch, bareEvent, bareKept}
 use Rattle.player.specs.Stops.Alike.{itself, drawing}

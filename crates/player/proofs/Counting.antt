@@ -13,15 +13,15 @@ use Rattle.std.proofs.shelf.Ways.{tells}
 use Rattle.std.specs.declared.option.Option.{Option}
 use Rattle.std.specs.declared.option.Option.the-variants.{Some, None}
 use Rattle.event.specs.declared.times.Time.{Time}
+use Rattle.player.proofs.Telling.{count-placed}
 use Rattle.player.specs.declared.elements.Kept.{Kept}
 use Rattle.player.specs.declared.elements.UsedId.{UsedId}
-use Rattle.player.specs.Draws.{known, knownAs, marked, markedAs, nameOf}
-use Rattle.player.specs.Elements.{idBefore, named, sameId}
+use Rattle.player.specs.Draws.{known, knownAs, marked, markedAs}
+use Rattle.player.specs.Elements.{idBefore, keptAs, nameOf, named, sameId, usedAs}
 use Rattle.player.specs.Once.{tellsId}
 use Rattle.player.specs.Plays.{markedAll, toldBy}
 use Rattle.player.specs.State.{State}
 use Rattle.player.specs.Tables.{any, none, tied, without}
-use Rattle.player.proofs.Soundness.{count-placed}
 
 -- how many elements pass
 abbrev pub count : {X : Type 0} → (X → Bool) → List X → ℕ
@@ -61,50 +61,42 @@ count-unhurt q p (x ∷ xs) f =
       | inr e ↦ rw e (elim (cases-bool (p x)) [ inl a ↦ rw a ih | inr a ↦ rw a (rw e ih) ])
     ]
 
--- the used ids that are i of the stream s
-abbrev pub used-as : ℕ → ℕ → UsedId → Bool
-used-as s i = tied idBefore (nameOf s i)
-
--- the kept events with the id i of the stream s
-abbrev pub kept-as : ℕ → ℕ → Kept → Bool
-kept-as s i = named (nameOf s i)
-
-same-name : (s i r j : ℕ) → used-as s i (nameOf r j) ≡ (eqb j i && eqb r s)
+same-name : (s i r j : ℕ) → usedAs s i (nameOf r j) ≡ (eqb j i && eqb r s)
 same-name s i r j = grind (arith, tells)
 
-marks-one-as : (s i : ℕ) (o : Option ℕ) (r : ℕ) (u : List UsedId) → count (used-as s i) (markedAs o r u) ≡ count (used-as s i) u + cond (sameId o i && eqb r s) 1 0
+marks-one-as : (s i : ℕ) (o : Option ℕ) (r : ℕ) (u : List UsedId) → count (usedAs s i) (markedAs o r u) ≡ count (usedAs s i) u + cond (sameId o i && eqb r s) 1 0
 marks-one-as s i None r u = omega arith
-marks-one-as s i (Some j) r u = count-placed idBefore (used-as s i) (nameOf r j) u ∙ ap (λ b. count (used-as s i) u + cond b 1 0) (same-name s i r j)
+marks-one-as s i (Some j) r u = count-placed idBefore (usedAs s i) (nameOf r j) u ∙ ap (λ b. count (usedAs s i) u + cond b 1 0) (same-name s i r j)
 
-pub marks-one : (s i : ℕ) (k : Kept) (u : List UsedId) → count (used-as s i) (marked k u) ≡ count (used-as s i) u + cond (kept-as s i k) 1 0
+pub marks-one : (s i : ℕ) (k : Kept) (u : List UsedId) → count (usedAs s i) (marked k u) ≡ count (usedAs s i) u + cond (keptAs s i k) 1 0
 marks-one s i k u = marks-one-as s i (k .id) (k .stream) u
 
-pub marks-all : (s i : ℕ) (ks : List Kept) (u : List UsedId) → count (used-as s i) (markedAll ks u) ≡ count (used-as s i) u + count (kept-as s i) ks
+pub marks-all : (s i : ℕ) (ks : List Kept) (u : List UsedId) → count (usedAs s i) (markedAll ks u) ≡ count (usedAs s i) u + count (keptAs s i) ks
 marks-all s i [] u = omega arith
 marks-all s i (k ∷ ks) u =
     let ih = marks-all s i ks (marked k u) in
-    elim (cases-bool (kept-as s i k)) [
-      | inl t ↦ let one : count (used-as s i) (marked k u) ≡ count (used-as s i) u + 1 = marks-one s i k u ∙ ap (λ b. count (used-as s i) u + cond b 1 0) t in rw t (omega arith)
-      | inr f ↦ let one : count (used-as s i) (marked k u) ≡ count (used-as s i) u + 0 = marks-one s i k u ∙ ap (λ b. count (used-as s i) u + cond b 1 0) f in rw f (omega arith)
+    elim (cases-bool (keptAs s i k)) [
+      | inl t ↦ let one : count (usedAs s i) (marked k u) ≡ count (usedAs s i) u + 1 = marks-one s i k u ∙ ap (λ b. count (usedAs s i) u + cond b 1 0) t in rw t (omega arith)
+      | inr f ↦ let one : count (usedAs s i) (marked k u) ≡ count (usedAs s i) u + 0 = marks-one s i k u ∙ ap (λ b. count (usedAs s i) u + cond b 1 0) f in rw f (omega arith)
     ]
 
 -- told kept events, by their ids
-pub tells-all : (s i : ℕ) (f : Kept → Time) (ks : List Kept) → count (tellsId s i) (map (toldBy f) ks) ≡ count (kept-as s i) ks
+pub tells-all : (s i : ℕ) (f : Kept → Time) (ks : List Kept) → count (tellsId s i) (map (toldBy f) ks) ≡ count (keptAs s i) ks
 tells-all s i f [] = refl
 tells-all s i f (k ∷ ks) =
     let ih = tells-all s i f ks in
-    elim (cases-bool (kept-as s i k)) [ inl t ↦ rw t (ap suc ih) | inr e ↦ rw e ih ]
+    elim (cases-bool (keptAs s i k)) [ inl t ↦ rw t (ap suc ih) | inr e ↦ rw e ih ]
 
 -- an event that is not known has its id neither used nor kept
-none-as : (s i : ℕ) (o : Option ℕ) (r : ℕ) (w : State) → knownAs o r w ≡ false → (sameId o i && eqb r s) ≡ true → count (used-as s i) (w .used) + count (kept-as s i) (w .kept) ≡ 0
+none-as : (s i : ℕ) (o : Option ℕ) (r : ℕ) (w : State) → knownAs o r w ≡ false → (sameId o i && eqb r s) ≡ true → count (usedAs s i) (w .used) + count (keptAs s i) (w .kept) ≡ 0
 none-as s i None r w new same = absurd (false≢true same)
 none-as s i (Some j) r w new same =
     let parts = and-parts (eqb j i) (eqb r s) same in
     let a : j ≡ i = eqb-true j i (parts .0) in
     let b : r ≡ s = eqb-true r s (parts .1) in
-    let here : (any (used-as s i) (w .used) || any (kept-as s i) (w .kept)) ≡ false = rw (a, b) at new in
-    let both = or-parts (any (used-as s i) (w .used)) (any (kept-as s i) (w .kept)) here in
-    omega (arith, count-none (used-as s i) (w .used) (not-false (none (used-as s i) (w .used)) (both .0)), count-none (kept-as s i) (w .kept) (not-false (none (kept-as s i) (w .kept)) (both .1)))
+    let here : (any (usedAs s i) (w .used) || any (keptAs s i) (w .kept)) ≡ false = rw (a, b) at new in
+    let both = or-parts (any (usedAs s i) (w .used)) (any (keptAs s i) (w .kept)) here in
+    omega (arith, count-none (usedAs s i) (w .used) (not-false (none (usedAs s i) (w .used)) (both .0)), count-none (keptAs s i) (w .kept) (not-false (none (keptAs s i) (w .kept)) (both .1)))
 
-pub none-known : (s i : ℕ) (k : Kept) (w : State) → known k w ≡ false → kept-as s i k ≡ true → count (used-as s i) (w .used) + count (kept-as s i) (w .kept) ≡ 0
+pub none-known : (s i : ℕ) (k : Kept) (w : State) → known k w ≡ false → keptAs s i k ≡ true → count (usedAs s i) (w .used) + count (keptAs s i) (w .kept) ≡ 0
 none-known s i k w new same = none-as s i (k .id) (k .stream) w new same

@@ -24,9 +24,9 @@ use Rattle.std.specs.declared.option.Option.the-variants.{Some, None}
 use Rattle.player.specs.declared.elements.Kept.{Kept}
 use Rattle.player.specs.declared.elements.UsedId.{UsedId}
 use Rattle.player.specs.declared.players.Drawn.the-variants as drawn
-use Rattle.player.specs.Draws.{Draw, Outcome, draws, drawsAt, keeps, known, marked, markedAs, nameOf, noIdPlace, onStart, receives, telling, tellsNow, withKept, withUsed}
+use Rattle.player.specs.Draws.{Draw, Outcome, draws, drawsAt, keeps, known, marked, markedAs, noIdPlace, onStart, receives, telling, tellsNow, withKept, withUsed}
 use Rattle.player.specs.Follows.{modeOf}
-use Rattle.player.specs.Elements.{dispatched, earlier, hasId, idBefore, keptOf}
+use Rattle.player.specs.Elements.{dispatched, earlier, hasId, idBefore, keptOf, nameOf}
 use Rattle.player.specs.State.{State, ids}
 use Rattle.player.specs.Tables.{placed, sorted}
 use Rattle.player.proofs.Sorting.{id-placed-sorted}

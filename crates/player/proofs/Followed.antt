@@ -19,16 +19,15 @@ use Rattle.event.specs.declared.modes.Trigger.the-variants.{Receive, Start}
 use Rattle.event.specs.declared.times.Time.{Time}
 use Rattle.player.specs.declared.elements.Kept.{Kept}
 use Rattle.player.specs.declared.elements.UsedId.{UsedId}
-use Rattle.player.specs.Elements.{dispatched, keptOf}
+use Rattle.player.specs.Elements.{activeAt, dispatched, keptAs, keptOf, usedAs}
 use Rattle.player.specs.Follows.{inMode, isOff, modeOf}
 use Rattle.player.specs.Leaves.{usedIn}
 use Rattle.player.specs.Once.{Once, OnceWhileFollowed, leavesIt, since, staysFollowed, tellsId, tellsOf, whileActive}
 use Rattle.player.specs.Plays.{toldBy}
 use Rattle.player.specs.Runs.{Call, New, World, after, does, done, runs}
 use Rattle.player.specs.Runs.CallOn.{follow}
-use Rattle.player.specs.Seeks.{activeAt}
 use Rattle.player.specs.State.{State}
-use Rattle.player.proofs.Counting.{count, count-unhurt, kept-as, marks-all, marks-one, tells-all, used-as}
+use Rattle.player.proofs.Counting.{count, count-unhurt, marks-all, marks-one, tells-all}
 use Rattle.player.proofs.Lasting.{Moded, Steady, moded-new, moded-runs, steady-after, steady-new, steady-runs}
 use Rattle.player.proofs.Outcomes.{Way, way}
 use Rattle.player.proofs.Outcomes.Way.{stays, tells-at-once, tells-now, keeps-it, moves, follows-it, leaves-it, evicts-some}
@@ -38,7 +37,7 @@ record Watched (s : ℕ) (base : List Dispatch) (w : World) : Type 0 where
   mode : modeOf (w .player) s ≡ OnStart
   news : List Dispatch
   told : w .sink .told ≡ base ++ news
-  used : (i : ℕ) → count (tellsId s i) news ≤ count (used-as s i) (w .player .used)
+  used : (i : ℕ) → count (tellsId s i) news ≤ count (usedAs s i) (w .player .used)
   active : All whileActive (kept-by (tellsOf s) news)
 
 count-append : {X : Type 0} (p : X → Bool) (xs ys : List X) → count p (xs ++ ys) ≡ count p xs + count p ys
@@ -47,7 +46,7 @@ count-append p xs ys = ap length (kept-by-append p xs ys) ∙ length-append (kep
 -- more was told
 module _ (s : ℕ) (base : List Dispatch) (w v : World) (so-far : Watched s base w) (ds : List Dispatch)
     (same-mode : modeOf (v .player) s ≡ modeOf (w .player) s) (tells-more : v .sink .told ≡ w .sink .told ++ ds)
-    (marks-more : (i : ℕ) → count (used-as s i) (w .player .used) + count (tellsId s i) ds ≤ count (used-as s i) (v .player .used))
+    (marks-more : (i : ℕ) → count (usedAs s i) (w .player .used) + count (tellsId s i) ds ≤ count (usedAs s i) (v .player .used))
     (on : All whileActive (kept-by (tellsOf s) ds)) where
   watched-more : Watched s base v
   watched-more = record {
@@ -60,7 +59,7 @@ module _ (s : ℕ) (base : List Dispatch) (w v : World) (so-far : Watched s base
 
 -- nothing more was told
 watched-same : (s : ℕ) (base : List Dispatch) (w v : World) → Watched s base w → modeOf (v .player) s ≡ modeOf (w .player) s → v .sink .told ≡ w .sink .told →
-    ((i : ℕ) → count (used-as s i) (w .player .used) ≤ count (used-as s i) (v .player .used)) → Watched s base v
+    ((i : ℕ) → count (usedAs s i) (w .player .used) ≤ count (usedAs s i) (v .player .used)) → Watched s base v
 watched-same s base w v so-far m t u = record {
   mode = m ∙ so-far .mode;
   news = so-far .news;
@@ -88,8 +87,8 @@ all-active s p f on (k ∷ ks) =
       | inr e ↦ rw e ih
     ]
 
-one-told : (s i : ℕ) (t : Time) (k : Kept) → count (tellsId s i) (dispatched t Start k ∷ []) ≡ cond (kept-as s i k) 1 0
-one-told s i t k = elim (cases-bool (kept-as s i k)) [ inl a ↦ rw a | inr a ↦ rw a ]
+one-told : (s i : ℕ) (t : Time) (k : Kept) → count (tellsId s i) (dispatched t Start k ∷ []) ≡ cond (keptAs s i k) 1 0
+one-told s i t k = elim (cases-bool (keptAs s i k)) [ inl a ↦ rw a | inr a ↦ rw a ]
 
 -- another stream's mode is set
 mode-other : (w : State) (s r : ℕ) (m : Mode) → (s ≡ r → ⊥) → modeOf (inMode r m w) s ≡ modeOf w s
@@ -101,7 +100,7 @@ modes-apart a b p q e = let z : _≡_ {A = ℕ} 0 1 = cc in omega arith
 off-apart : (a b : Mode) → a ≡ OnStart → isOff b ≡ true → a ≡ b → ⊥
 off-apart a b p q e = let f : isOff OnStart ≡ true = subst (λ x. isOff x ≡ true) (sym e ∙ p) q in false≢true f
 
-named-apart : (s i r : ℕ) (n : UsedId) → (s ≡ r → ⊥) → used-as s i n ≡ true → usedIn r n ≡ false
+named-apart : (s i r : ℕ) (n : UsedId) → (s ≡ r → ⊥) → usedAs s i n ≡ true → usedIn r n ≡ false
 named-apart s i r n apart e = grind (arith, tells)
 
 watched-way : (s : ℕ) (base : List Dispatch) {w v : World} {c : Call} → leavesIt s c w ≡ false → Watched s base w → Way w c v → Watched s base v
@@ -123,7 +122,7 @@ watched-way s base {w} {v} stay h (follows-it r m off) =
     watched-same s base w v h (mode-other (w .player) s r m apart) refl (λ i. omega arith)
 watched-way s base {w} {v} {c} stay h (leaves-it r ends) =
     let apart : s ≡ r → ⊥ = λ q. both-ways (leavesIt r c w) (subst (λ x. leavesIt x c w ≡ false) q stay) ends in
-    watched-same s base w v h (mode-other (w .player) s r Off apart) refl (λ i. omega (arith, count-unhurt (used-as s i) (usedIn r) (w .player .used) (λ n e. named-apart s i r n apart e)))
+    watched-same s base w v h (mode-other (w .player) s r Off apart) refl (λ i. omega (arith, count-unhurt (usedAs s i) (usedIn r) (w .player .used) (λ n e. named-apart s i r n apart e)))
 watched-way s base {w} {v} stay h (evicts-some a b) = watched-same s base w v h refl refl (λ i. omega arith)
 
 watched-runs : (s : ℕ) (base : List Dispatch) (cs : List Call) (w : World) → staysFollowed s cs w ≡ true → Watched s base w → Watched s base (runs cs w)

@@ -14,61 +14,27 @@ use Rattle.event.specs.Sinks.{Held}
 use Rattle.player.specs.declared.elements.Kept.{Kept}
 use Rattle.player.specs.declared.elements.UsedId.{UsedId}
 use Rattle.player.specs.Draws.{known, marked}
-use Rattle.player.specs.Elements.{earlier}
+use Rattle.player.specs.Elements.{activeAt, earlier, keptAs, usedAs}
 use Rattle.player.specs.Evicts.{arrivedIn}
 use Rattle.player.specs.Leaves.{keptIn, usedIn}
 use Rattle.player.specs.Once.{NoneKeptActive, noneActive}
 use Rattle.player.specs.Plays.{moved}
 use Rattle.player.specs.Runs.{Call, New, World, after, runs, world}
-use Rattle.player.specs.Seeks.{activeAt}
 use Rattle.player.specs.State.{State, fresh}
 use Rattle.player.specs.Tables.{fails, none, placed, sorted, without}
-use Rattle.player.proofs.Counting.{count, count-apart, kept-as, marks-all, marks-one, none-known, none-of, used-as}
+use Rattle.player.proofs.Counting.{count, count-apart, marks-all, marks-one, none-known, none-of}
 use Rattle.player.proofs.InOrder.{none-placed}
 use Rattle.player.proofs.Outcomes.{Way, way}
 use Rattle.player.proofs.Outcomes.Way.{stays, tells-at-once, tells-now, keeps-it, moves, follows-it, leaves-it, evicts-some}
+use Rattle.player.proofs.Singles.{Single, one-kept, one-used, single-fewer, single-kept-fewer, single-moved}
 use Rattle.player.proofs.Sorting.{earlier-further, earlier-opposite, kept-placed-sorted}
-use Rattle.player.proofs.Soundness.{count-placed}
-use Rattle.player.proofs.Telling.{sorted-filtered}
-
--- each id of a stream stands at most once over used ids and kept events together
-abbrev pub Single : State → Type 0
-Single w = (s i : ℕ) → count (used-as s i) (w .used) + count (kept-as s i) (w .kept) ≤ 1
+use Rattle.player.proofs.Telling.{count-placed, sorted-filtered}
 
 -- kept events in order, ids single, nothing kept active at the playhead
 pub record Steady (w : World) : Type 0 where
   pub ordered : sorted earlier (w .player .kept) ≡ true
   pub single : Single (w .player)
   pub resting : noneActive (w .player) ≡ true
-
--- an event that is not known has one count more, of used ids or of kept events
-module _ (w : State) (k : Kept) (new : known k w ≡ false) (single : Single w) (s i : ℕ) where
-  pub one-used : count (used-as s i) (marked k (w .used)) + count (kept-as s i) (w .kept) ≤ 1
-  one-used =
-      let u : ℕ = count (used-as s i) (w .used) in
-      elim (cases-bool (kept-as s i k)) [
-        | inl t ↦ omega (arith, marks-one s i k (w .used) ∙ ap (λ b. u + cond b 1 0) t, none-known s i k w new t)
-        | inr f ↦ omega (arith, marks-one s i k (w .used) ∙ ap (λ b. u + cond b 1 0) f, single s i)
-      ]
-
-  pub one-kept : count (used-as s i) (w .used) + count (kept-as s i) (placed earlier k (w .kept)) ≤ 1
-  one-kept =
-      let n : ℕ = count (kept-as s i) (w .kept) in
-      elim (cases-bool (kept-as s i k)) [
-        | inl t ↦ omega (arith, count-placed earlier (kept-as s i) k (w .kept) ∙ ap (λ b. n + cond b 1 0) t, none-known s i k w new t)
-        | inr f ↦ omega (arith, count-placed earlier (kept-as s i) k (w .kept) ∙ ap (λ b. n + cond b 1 0) f, single s i)
-      ]
-
--- told kept events are used, and no longer kept
-single-moved : (t : Time) (p : Kept → Bool) (w : State) → Single w → Single (moved t p w)
-single-moved t p w single s i = omega (arith, marks-all s i (kept-by p (w .kept)) (w .used), count-apart (kept-as s i) p (w .kept), single s i)
-
--- fewer kept, and fewer used
-single-fewer : (p : Kept → Bool) (q : UsedId → Bool) (w : State) → Single w → (s i : ℕ) → count (used-as s i) (without q (w .used)) + count (kept-as s i) (without p (w .kept)) ≤ 1
-single-fewer p q w single s i = omega (arith, count-apart (used-as s i) q (w .used), count-apart (kept-as s i) p (w .kept), single s i)
-
-single-kept-fewer : (p : Kept → Bool) (w : State) → Single w → (s i : ℕ) → count (used-as s i) (w .used) + count (kept-as s i) (without p (w .kept)) ≤ 1
-single-kept-fewer p w single s i = omega (arith, count-apart (kept-as s i) p (w .kept), single s i)
 
 pub steady-way : {w v : World} {c : Call} → Steady w → Way w c v → Steady v
 steady-way h stays = h
@@ -112,7 +78,7 @@ steady-new n k m f w h =
     let used-none : w .player .used ≡ [] = ap (λ p. p .used) (h .player) in
     record {
       ordered = ap (sorted earlier) kept-none;
-      single = λ s i. omega (arith, ap (count (used-as s i)) used-none, ap (count (kept-as s i)) kept-none);
+      single = λ s i. omega (arith, ap (count (usedAs s i)) used-none, ap (count (keptAs s i)) kept-none);
       resting = ap (none (activeAt (w .player .playhead .ms))) kept-none;
     }
 

@@ -18,7 +18,8 @@ use Rattle.player.specs.Evicts.{arrivedIn, evicts}
 use Rattle.player.specs.Follows.{isOff, modeOf}
 use Rattle.player.specs.Leaves.{keptIn, leaves, left}
 use Rattle.player.specs.Plays.{moved, toldBy, toldTo}
-use Rattle.player.specs.Seeks.{Seek, activeAt, atTime, seeks, seeksTo}
+use Rattle.player.specs.Elements.{activeAt}
+use Rattle.player.specs.Seeks.{Seek, atTime, seeks, seeksTo}
 use Rattle.player.specs.State.{State}
 use Rattle.player.specs.Tables.{without}
 use Rattle.player.proofs.Playing.{atPlayhead}

@@ -17,3 +17,4 @@ pub mod Soundness
 pub mod Stopping
 pub mod Tallying
 pub mod Telling
+pub mod Singles

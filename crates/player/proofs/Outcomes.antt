@@ -30,7 +30,7 @@ use Rattle.event.proofs.Clock.{ms-time}
 use Rattle.player.specs.declared.elements.Kept.{Kept}
 use Rattle.player.specs.declared.players.Drawn.the-variants as drawn
 use Rattle.player.specs.Draws.{Outcome, drawsAt, inModeOf, keeps, known, marked, noIdPlace, onStart, receivesIn, tellsNow, withKept, withUsed}
-use Rattle.player.specs.Elements.{dispatched, earlier, keptOf, starts}
+use Rattle.player.specs.Elements.{activeAt, dispatched, earlier, keptOf, starts}
 use Rattle.player.specs.Evicts.{arrivedIn}
 use Rattle.player.specs.Follows.{inMode, isOff, modeOf}
 use Rattle.player.specs.Leaves.{left}
@@ -38,7 +38,7 @@ use Rattle.player.specs.Once.{leavesIt}
 use Rattle.player.specs.Plays.{due, moved, playsTo, reach, reachBefore, startOf, startsIn, toldBy, toldTo}
 use Rattle.player.specs.Runs.{Call, World, after, world}
 use Rattle.player.specs.Runs.CallOn.{draw, play, seek, follow, leave, evict}
-use Rattle.player.specs.Seeks.{activeAt, atTime, seeksTo}
+use Rattle.player.specs.Seeks.{atTime, seeksTo}
 use Rattle.player.specs.State.{State}
 use Rattle.player.specs.Tables.{placed, without}
 
@@ -127,7 +127,7 @@ starts-active k = go (k .span .duration)
     go None = grind (arith, tells)
     go (Some d) = grind (arith, tells)
 
-still-over : (a u t : ℕ) (k : Kept) → a ≤ t → t ≤ u → activeAt a k ≡ false → startsIn a u k ≡ false → activeAt t k ≡ false
+pub still-over : (a u t : ℕ) (k : Kept) → a ≤ t → t ≤ u → activeAt a k ≡ false → startsIn a u k ≡ false → activeAt t k ≡ false
 still-over a u t k l m e f = go (k .span .duration) e
   where
     go : (d : Option Time) → (leb (starts k) a && not (endBehind (starts k) d a)) ≡ false → (leb (starts k) t && not (endBehind (starts k) d t)) ≡ false

@@ -29,14 +29,14 @@ use Rattle.player.specs.declared.players.Drawn.{Drawn}
 use Rattle.player.specs.declared.players.Drawn.the-variants as drawn
 use Rattle.player.specs.Draws
 use Rattle.player.specs.Draws.{Outcome, inModeOf, keeps, known, noIdPlace, onStart, receivesIn, tellsNow}
-use Rattle.player.specs.Elements.{dispatched, earlier, keptOf}
+use Rattle.player.specs.Elements.{activeAt, dispatched, earlier, keptOf}
 use Rattle.player.specs.Evicts.{arrivedIn}
 use Rattle.player.specs.Follows.{isOff, modeOf}
 use Rattle.player.specs.Leaves.{keptIn}
 use Rattle.player.specs.Plays.{reach, startOf, startsIn, toldBy}
 use Rattle.player.specs.Runs.{Call, New, World, after, runs}
 use Rattle.player.specs.Runs.CallOn.{draw, play, seek, follow, leave, evict}
-use Rattle.player.specs.Seeks.{activeAt, atTime}
+use Rattle.player.specs.Seeks.{atTime}
 use Rattle.player.specs.Tables.{fails, without}
 use Rattle.player.specs.Tally.{TallyAddsUp, answered, evictedBy, isLine, leftBy, stepped, sums}
 use Rattle.player.proofs.InOrder.{length-placed}

@@ -20,12 +20,12 @@ use Rattle.event.specs.Sinks.{Held, more}
 use Rattle.player.specs.declared.elements.Kept.{Kept}
 use Rattle.player.specs.declared.elements.UsedId.{UsedId}
 use Rattle.player.specs.declared.rows.Rows.{Rows}
-use Rattle.player.specs.Draws.{marked, markedAs, nameOf}
-use Rattle.player.specs.Elements.{hasId, idBefore}
+use Rattle.player.specs.Draws.{marked, markedAs}
+use Rattle.player.specs.Elements.{hasId, idBefore, nameOf}
 use Rattle.player.specs.Plays.{markedAll, toldTo}
 use Rattle.player.specs.Rows.{items}
 use Rattle.player.specs.State.{ids}
-use Rattle.player.specs.Tables.{fails, none, sorted, without}
+use Rattle.player.specs.Tables.{fails, none, placed, sorted, without}
 use Rattle.player.proofs.Drawing.{marked-sorted}
 use Rattle.player.proofs.Fronts.{front-same}
 use Rattle.player.proofs.InOrder.{length-placed}
@@ -173,7 +173,7 @@ ids-apart p (k ∷ ks) =
       | inr f ↦ rw f (elim (cases-bool (hasId k)) [ inl a ↦ rw a (omega (arith, ih)) | inr a ↦ rw a ih ])
     ]
 
-none-filtered : {X : Type 0} (p q : X → Bool) (xs : List X) → none q xs ≡ true → none q (kept-by p xs) ≡ true
+pub none-filtered : {X : Type 0} (p q : X → Bool) (xs : List X) → none q xs ≡ true → none q (kept-by p xs) ≡ true
 none-filtered p q [] h = refl
 none-filtered p q (x ∷ xs) h =
     let parts = and-parts (not (q x)) (none q xs) h in
@@ -193,3 +193,16 @@ sorted-filtered before p (x ∷ xs) h =
 -- counting
 pub counted-more : {X : Type 0} (p : X → Bool) (xs : List X) (i : ℕ) (x : X) (b : Bool) → i < length xs → x ≡ getD xs i x → p x ≡ b → length (kept-by p (take (i + 1) xs)) ≡ length (kept-by p (take i xs)) + cond b 1 0
 counted-more p xs i x b l read e = length-kept-by-more p xs i x l ∙ ap (λ c. length (kept-by p (take i xs)) + cond c 1 0) (ap p (sym read) ∙ e)
+
+-- one more in a table is one more of those that pass, where it passes
+pub count-placed : {X : Type 0} (before : X → X → Bool) (p : X → Bool) (x : X) (ys : List X) → length (kept-by p (placed before x ys)) ≡ length (kept-by p ys) + cond (p x) 1 0
+count-placed before p x [] = elim (cases-bool (p x)) [ inl t ↦ rw t | inr f ↦ rw f ]
+count-placed before p x (y ∷ ys) =
+    let ih = count-placed before p x ys in
+    elim (cases-bool (before x y)) [
+      | inl t ↦ rw t (elim (cases-bool (p x)) [
+        | inl a ↦ rw a (elim (cases-bool (p y)) [ inl b ↦ rw b (omega arith) | inr b ↦ rw b (omega arith) ])
+        | inr a ↦ rw a (elim (cases-bool (p y)) [ inl b ↦ rw b (omega arith) | inr b ↦ rw b (omega arith) ])
+      ])
+      | inr f ↦ rw f (elim (cases-bool (p y)) [ inl b ↦ rw b (omega (arith, ih)) | inr b ↦ rw b ih ])
+    ]

@@ -1,5 +1,4 @@
 -- Drawing from a feed.
---   nameOf s i         the id i in the stream s
 --   known k w          the event's id is used or kept in its stream; an event without an id is never known
 --   noIdPlace k w      the event has an id, and used ids and ids of kept events have taken all places
 --   marked k u         the used ids with the event's id among them
@@ -39,13 +38,10 @@ use Rattle.player.specs.declared.elements.Kept.{Kept}
 use Rattle.player.specs.declared.elements.UsedId.{UsedId}
 use Rattle.player.specs.declared.players.Drawn.{Drawn}
 use Rattle.player.specs.declared.players.Drawn.the-variants as drawn
-use Rattle.player.specs.Elements.{dispatched, earlier, hasId, idBefore, keptOf, named}
+use Rattle.player.specs.Elements.{dispatched, earlier, hasId, idBefore, keptOf, nameOf, named}
 use Rattle.player.specs.Follows.{modeOf}
 use Rattle.player.specs.State.{State, ids}
 use Rattle.player.specs.Tables.{any, placed, tied}
-
-abbrev pub nameOf : ℕ → ℕ → UsedId
-nameOf s i = record { stream = s; id = i }
 
 abbrev pub knownAs : Option ℕ → ℕ → State → Bool
 knownAs None s w = false

@@ -6,6 +6,10 @@
 --   sameId o i          an id that is there and is i
 --   named n k           an event of the name's stream with its id
 --   hasId k             an event with an id
+--   activeAt t k        the event is active at t
+--   nameOf s i          the id i in the stream s
+--   usedAs s i n        a used id that is this one
+--   keptAs s i k        a kept event with this id, of this stream
 --   dispatched t m k    the dispatch of an event at t
 use Prim.Native.Nat.{ℕ}
 use mathlib.Core.Bool.{Bool, true, false, cond, _&&_}
@@ -17,6 +21,8 @@ use Rattle.event.specs.declared.dispatches.Dispatch.{Dispatch}
 use Rattle.event.specs.declared.events.Event.{Event}
 use Rattle.event.specs.declared.modes.Trigger.{Trigger}
 use Rattle.event.specs.declared.times.Time.{Time}
+use Rattle.event.specs.Spans.{active}
+use Rattle.player.specs.Tables.{tied}
 use Rattle.player.specs.declared.elements.Kept.{Kept}
 use Rattle.player.specs.declared.elements.UsedId.{UsedId}
 
@@ -44,3 +50,15 @@ hasId k = isSome (k .id)
 
 abbrev pub dispatched : Time → Trigger → Kept → Dispatch
 dispatched t m k = record { position = t; trigger = m; stream = k .stream; id = k .id; span = k .span; message = k .message }
+
+abbrev pub activeAt : ℕ → Kept → Bool
+activeAt t k = active (k .span) t
+
+abbrev pub nameOf : ℕ → ℕ → UsedId
+nameOf s i = record { stream = s; id = i }
+
+abbrev pub usedAs : ℕ → ℕ → UsedId → Bool
+usedAs s i = tied idBefore (nameOf s i)
+
+abbrev pub keptAs : ℕ → ℕ → Kept → Bool
+keptAs s i = named (nameOf s i)

@@ -18,10 +18,9 @@ use Rattle.std.specs.shelf.Lists.{All, kept-by}
 use Rattle.event.specs.declared.dispatches.Dispatch.{Dispatch}
 use Rattle.event.specs.declared.modes.Mode.the-variants.{OnStart}
 use Rattle.event.specs.Spans.{active}
-use Rattle.player.specs.Elements.{sameId}
+use Rattle.player.specs.Elements.{activeAt, sameId}
 use Rattle.player.specs.Runs.{Call, World, after, does, done, runs}
 use Rattle.player.specs.Runs.CallOn.{draw, play, seek, follow, leave, evict}
-use Rattle.player.specs.Seeks.{activeAt}
 use Rattle.player.specs.State.{State}
 use Rattle.player.specs.Tables.{none}
 

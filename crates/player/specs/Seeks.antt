@@ -1,9 +1,8 @@
 -- Jumping to a time.
---   activeAt t k      the event is active at t
 --   atTime t k        the position t, whatever the event
 --   seeks t w h       what a seek answers and leaves: 20 past the latest time, 24 where the active events outnumber the free places
 use Prim.Native.Nat.{ℕ}
-use mathlib.Core.Bool.{Bool, cond}
+use mathlib.Core.Bool.{cond}
 use mathlib.Core.List.{map}
 use lib.Dec.{ltb}
 use lib.ListN.{length}
@@ -12,14 +11,11 @@ use Rattle.event.specs.declared.times.Time.{Time}
 use Rattle.event.specs.Numbers.{Answer}
 use Rattle.event.specs.Numbers.Answer.{did, refused}
 use Rattle.event.specs.Sinks.{Held}
-use Rattle.event.specs.Spans.{active}
 use Rattle.event.specs.Times.{latest, time}
 use Rattle.player.specs.declared.elements.Kept.{Kept}
+use Rattle.player.specs.Elements.{activeAt}
 use Rattle.player.specs.Plays.{moved, toldBy, toldTo}
 use Rattle.player.specs.State.{State}
-
-abbrev pub activeAt : ℕ → Kept → Bool
-activeAt t k = active (k .span) t
 
 abbrev pub atTime : Time → Kept → Time
 atTime t k = t

@@ -2,11 +2,11 @@
 ghost use mathlib.Core.Path.{_≡_};
 ghost use Rattle.event.specs.declared.times.Time.{Time as Moment};
 ghost use Rattle.player.specs.declared.elements.Kept.{Kept as Item};
-ghost use Rattle.player.specs.Elements.{hasId};
+ghost use Rattle.player.specs.Elements.{activeAt, hasId};
 ghost use Rattle.player.specs.Evicts.{arrivedIn};
 ghost use Rattle.player.specs.Leaves.{keptIn, usedIn};
 ghost use Rattle.player.specs.Plays.{startOf, startsBy, startsIn};
-ghost use Rattle.player.specs.Seeks.{activeAt, atTime};
+ghost use Rattle.player.specs.Seeks.{atTime};
 use crate::elements::Kept;
 use crate::elements::UsedId;
 use crate::orders::Test;

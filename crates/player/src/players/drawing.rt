@@ -10,7 +10,7 @@ ghost use Rattle.std.specs.Results.{isOk};
 ghost use Rattle.player.specs.Draws.{draws, keeps, known, marked, noIdPlace, onStart, receives, telling, tellsNow};
 ghost use Rattle.player.specs.State.{Lent, State, state};
 ghost use Rattle.player.specs.Tables.{sorted};
-ghost use Rattle.player.specs.Elements.{hasId, idBefore};
+ghost use Rattle.player.specs.Elements.{activeAt, hasId, idBefore};
 ghost use Rattle.player.specs.Rows.{items};
 use super::Drawn;
 use super::Player;
@@ -95,6 +95,8 @@ impl Player<'_> {
 
     // Keeps an event at its place, where there is one for it and for its id.
     pub(crate) fn keep(&mut self, event: Kept) -> Result<Drawn, Refusal>
+        requires unknown { ⌜ known event (state (now self)) ≡ false ⌝ }
+        requires later { ⌜ activeAt (state (now self) .playhead .ms) event ≡ false ⌝ }
         ensures after { λ r. ⌜ ((h : Held) → (answer r, state (now (self .exit)), h) ≡ keeps event (state (now (self .entry))) h) ⌝ }
         ensures lent { λ _. ⌜ Lent (now (self .entry)) (now (self .exit)) ⌝ }
         ensures same { λ r. ⌜ (isOk r ≡ false → now (self .exit) ≡ now (self .entry)) ⌝ }
@@ -112,6 +114,7 @@ impl Player<'_> {
 
     // Tells an active event at the playhead, and its id becomes used.
     pub(crate) fn tell_now<S: Sink>(&mut self, event: Kept, sink: &mut S) -> Result<Drawn, Refusal>
+        requires { ⌜ known event (state (now self)) ≡ false ⌝ }
         ensures after { λ r. ⌜ (answer r, state (now (self .exit)), held (now (sink .exit))) ≡ tellsNow event (state (now (self .entry))) (held (now (sink .entry))) ⌝ }
         ensures lent { λ _. ⌜ Lent (now (self .entry)) (now (self .exit)) ⌝ }
         ensures same { λ r. ⌜ (isOk r ≡ false → (now (self .exit) ≡ now (self .entry)) × (now (sink .exit) ≡ now (sink .entry))) ⌝ }

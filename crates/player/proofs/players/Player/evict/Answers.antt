@@ -25,7 +25,7 @@ ghost-self c =
     let p = c .args .self .now in
     let kept = c .remove .ensures in
     let h : Head = record { streams = p .head .streams; playhead = p .head .playhead; modes = p .head .modes; «kept_ids» = c .count-self .result } in
-    (forget-sound p (arrivedIn (c .args .from) (c .args .to)) (c .remove .last .self) (kept .items) (kept .len) (kept .places) h (p .used) (p .sound .1 .1) (omega arith) refl (c .count-self .ensures), tt)
+    (forget-sound p (arrivedIn (c .args .from) (c .args .to)) (c .remove .last .self) (kept .items) (kept .len) (kept .places) h (p .used) (p .sound .1 .1) (omega arith) refl (c .count-self .ensures) refl (λ s i. omega arith), tt)
 
 pub sub-result : need.sub-result
 sub-result c =

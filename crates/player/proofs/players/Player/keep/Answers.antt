@@ -27,14 +27,14 @@ pub add-self : need.add-self
 add-self c =
     let done = c .insert .ensures in
     let one : c .from .result ≡ cond (hasId (c .args .event)) 1 0 = c .from .ensures ∙ byte-is-one (c .is-some .result) ∙ ap (λ b. cond b 1 0) (c .is-some .ensures) in
-    let fits = keep-fits (c .args .self .now) (c .args .event) (c .insert .last .self) (c .from .result) (done .items) (done .len) (done .places) (c .if-self .left) (sym (c .if-lacks-id-place .ensures tt)) one in
+    let fits = keep-fits (c .args .self .now) (c .args .event) (c .insert .last .self) (c .from .result) (done .items) (done .len) (done .places) (c .if-self .left) (sym (c .if-lacks-id-place .ensures tt)) one (c .pre .unknown) (c .pre .later) in
     omega (arith, fits)
 
 pub ghost-self : need.ghost-self
 ghost-self c =
     let done = c .insert .ensures in
     let one : c .from .result ≡ cond (hasId (c .args .event)) 1 0 = c .from .ensures ∙ byte-is-one (c .is-some .result) ∙ ap (λ b. cond b 1 0) (c .is-some .ensures) in
-    (keep-sound (c .args .self .now) (c .args .event) (c .insert .last .self) (c .from .result) (done .items) (done .len) (done .places) (c .if-self .left) (sym (c .if-lacks-id-place .ensures tt)) one, tt)
+    (keep-sound (c .args .self .now) (c .args .event) (c .insert .last .self) (c .from .result) (done .items) (done .len) (done .places) (c .if-self .left) (sym (c .if-lacks-id-place .ensures tt)) one (c .pre .unknown) (c .pre .later), tt)
 
 pub returns : need.returns
 returns c =

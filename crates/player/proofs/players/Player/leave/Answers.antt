@@ -4,12 +4,15 @@ use native.Mathlib.Omega.{arith}
 use Rattle.event.specs.Fronts.{front}
 use Rattle.std.proofs.shelf.Tests.{true≢false}
 use Rattle.player.specs.declared.players.Head.{Head}
-use Rattle.player.specs.Elements.{idBefore}
+use Rattle.player.specs.Elements.{idBefore, usedAs}
 use Rattle.player.specs.Follows.{isOff, modeOf}
 use Rattle.player.specs.Leaves.{keptIn, usedIn}
 use Rattle.player.specs.Rows.{items}
 use Rattle.player.specs.State.{state}
 use Rattle.player.specs.Tables.{fails, sorted}
+use lib.ListN.{length}
+use Rattle.std.specs.shelf.Lists.{kept-by}
+use Rattle.player.proofs.Counting.{count-apart}
 use Rattle.player.proofs.Leaving.{leaves-done}
 use Rattle.player.proofs.Telling.{sorted-filtered}
 use borrow.Author.Needs.{needs}
@@ -35,7 +38,8 @@ ghost-self c =
     let h : Head = record { streams = p .head .streams; playhead = p .head .playhead; modes = p .head .modes; «kept_ids» = c .count-self .result } in
     let ordered = ap (sorted idBefore) (used .items) ∙ sorted-filtered idBefore (fails (usedIn (c .args .stream))) (items (p .used)) (p .sound .1 .1) in
     let fewer = used-fewer p (usedIn (c .args .stream)) (c .remove-2 .last .self) (used .len) in
-    (forget-sound p (keptIn (c .args .stream)) (c .remove .last .self) (kept .items) (kept .len) (kept .places) h (c .remove-2 .last .self) ordered fewer (used .places) (c .count-self .ensures), tt)
+    (forget-sound p (keptIn (c .args .stream)) (c .remove .last .self) (kept .items) (kept .len) (kept .places) h (c .remove-2 .last .self) ordered fewer (used .places) (c .count-self .ensures) refl
+      (λ s i. omega (arith, count-apart (usedAs s i) (usedIn (c .args .stream)) (items (p .used)), ap (λ l. length (kept-by (usedAs s i) l)) (used .items))), tt)
 
 pub sub-result : need.sub-result
 sub-result c =

@@ -5,10 +5,10 @@ use Rattle.std.proofs.shelf.Tests.{true≢false}
 use lib.ListN.{length}
 use Rattle.std.specs.shelf.Lists.{kept-by}
 use Rattle.player.specs.Rows.{items}
-use Rattle.player.specs.Seeks.{activeAt}
+use Rattle.player.specs.Elements.{activeAt}
 use Rattle.player.specs.State.{state}
 use Rattle.player.proofs.Leaving.{seeks-full, seeks-late, sought}
-use Rattle.player.proofs.Soundness.{lent-same}
+use Rattle.player.proofs.Soundness.{lent-same, moved-sound}
 use Rattle.player.proofs.players.Player.seek.Needs as need
 
 pub returns-in-rest : need.returns-in-rest
@@ -27,6 +27,12 @@ returns-then-free-places-count g c =
       lent = lent-same p;
       same = λ _. (refl, refl);
     }
+
+pub ghost-self : need.ghost-self
+ghost-self g c =
+    let r = c .in-Some .target in
+    let kept-is = ap (λ q. q .kept) (c .tell-kept-told .ensures .after) in
+    (tt, (moved-sound (c .args .self .now) (c .tell-kept-told .last .self) r (activeAt (r .ms)) kept-is (λ k e f. f), tt))
 
 pub returns : need.returns
 returns g c =

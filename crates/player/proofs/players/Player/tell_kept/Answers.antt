@@ -25,6 +25,6 @@ ghost-self g c =
       «kept_ids» = p .head .«kept_ids» - (c .tell-picked-told .last .used .len - p .used .len);
     } in (
       tell-sound p (g .P·Test .passing (c .args .pick .now)) h (c .remove .last .self) (c .tell-picked-told .last .used)
-          (left .items) (left .len) (left .places) (told .items) (told .len) (told .places) refl,
+          (left .items) (left .len) (left .places) (told .items) (told .len) (told .places) refl refl,
       tt,
     )

@@ -29,7 +29,7 @@ returns-then-free-places-eq0 g c =
 pub ghost-self : need.ghost-self
 ghost-self g c =
     let done = c .mark .ensures in
-    (use-sound (c .args .self .now) (c .args .event) (c .mark .last .used) (done .items) (done .len) (done .places) (sym (c .if-lacks-id-place .ensures tt)), tt)
+    (use-sound (c .args .self .now) (c .args .event) (c .mark .last .used) (done .items) (done .len) (done .places) (sym (c .if-lacks-id-place .ensures tt)) (c .pre), tt)
 
 pub returns : need.returns
 returns g c =
