@@ -35,12 +35,13 @@ use Rattle.player.specs.Evicts.{arrivedIn}
 use Rattle.player.specs.Follows.{inMode, isOff, modeOf}
 use Rattle.player.specs.Leaves.{left}
 use Rattle.player.specs.Once.{leavesIt}
-use Rattle.player.specs.Plays.{due, moved, playsTo, reach, reachBefore, startOf, startsIn, toldBy, toldTo}
+use Rattle.player.specs.Plays.{Furthest, due, moved, playsTo, reach, reachBefore, startOf, startsIn, toldBy, toldTo}
 use Rattle.player.specs.Runs.{Call, World, after, world}
 use Rattle.player.specs.Runs.CallOn.{draw, play, seek, follow, leave, evict}
 use Rattle.player.specs.Seeks.{atTime, seeksTo}
 use Rattle.player.specs.State.{State}
-use Rattle.player.specs.Tables.{placed, without}
+use Rattle.player.specs.Tables.{placed, sorted, without}
+use Rattle.player.proofs.Reaching.{due-fits, none-further}
 
 -- nothing changes; or an event is told at once, told and marked, or kept; or kept events are told, the playhead moves; or a stream's mode changes; or kept events go
 pub data Way (w : World) (c : Call) : World → Type 0 where
@@ -118,6 +119,18 @@ reach-between a t (k ∷ ks) h l = let d = due-in a t k (h .0) in (omega arith, 
 pub reach-within : (w : State) (free t : ℕ) → w .playhead .ms ≤ t → (w .playhead .ms ≤ reach w free t) × (reach w free t ≤ t)
 reach-within w free t l =
     reach-between (w .playhead .ms) t (drop free (due w t)) (all-drop (λ k. startsIn (w .playhead .ms) t k ≡ true) free (due w t) (kept-by-passes (startsIn (w .playhead .ms) t) (w .kept))) l
+
+-- a play reaches the furthest time by which all fits
+pub furthest-reach : (t : ℕ) (w : State) (h : Held) (u : ℕ) → sorted earlier (w .kept) ≡ true → w .playhead .ms ≤ t → u ≡ reach w (h .free) t → Furthest w (h .free) t u
+furthest-reach t w h u ordered l is =
+    let within = reach-within w (h .free) t l in
+    let fits = due-fits (w .playhead .ms) t (h .free) (w .kept) ordered in
+    record {
+      not-back = omega (arith, within);
+      not-past = omega (arith, within);
+      fits = omega (arith, fits, ap (λ v. length (due w v)) is);
+      none-further = λ v b e. none-further (w .playhead .ms) t (h .free) (w .kept) ordered v (omega (arith, is)) e;
+    }
 
 -- by what is due and by what is active
 starts-active : (k : Kept) → activeAt (starts k) k ≡ true

@@ -141,6 +141,24 @@ module _ (a t free : ℕ) (ks : List Kept) (ordered : sorted earlier ks ≡ true
   pub due-fits : length (kept-by (startsIn a (reachBefore (drop free (kept-by (startsIn a t) ks)) t)) ks) ≤ free
   due-fits = fits-to (drop free (kept-by (startsIn a t) ks)) refl
 
+  -- what is due up to any later time does not fit
+  further-to : (l : List Kept) → drop free (kept-by (startsIn a t) ks) ≡ l → (v : ℕ) → reachBefore l t < v → v ≤ t → free < length (kept-by (startsIn a v) ks)
+  further-to [] s v b e = absurd (omega arith)
+  further-to (k ∷ rest) s v b e =
+      let d : List Kept = kept-by (startsIn a t) ks in
+      let n : ℕ = prefix (startsBy t) behind in
+      let w = prefix-within (startsBy t) behind in
+      let long : length (take n behind) ≡ n = length-take-le n behind w in
+      let below : free < length d = omega (arith, ap length s, length-drop free d) in
+      let below-n : free < n = omega (arith, ap length (due-is t)) in
+      let first : getD d free k ≡ k = ap (λ m. getD d m k) (sym (add-zero free)) ∙ sym (getD-drop free d 0 k) ∙ ap (λ l. getD l 0 k) s in
+      let at : getD behind free k ≡ k = sym (getD-take n behind free k below-n) ∙ ap (λ l. getD l free k) (sym (due-is t)) ∙ first in
+      let passes : free < prefix (startsBy v) behind = prefix-passes (startsBy v) behind free k (behind-leads v) (omega arith) (ap (startsBy v) at ∙ le-leb (starts k) v (omega arith)) in
+      omega (arith, passes, ap length (due-is v), length-take-le (prefix (startsBy v) behind) behind (prefix-within (startsBy v) behind))
+
+  pub none-further : (v : ℕ) → reachBefore (drop free (kept-by (startsIn a t) ks)) t < v → v ≤ t → free < length (kept-by (startsIn a v) ks)
+  none-further = further-to (drop free (kept-by (startsIn a t) ks)) refl
+
 -- over the first n of xs, with the event read where the first place is missing
 module _ (a t free : ℕ) (xs : List Kept) (n first : ℕ) (k : Kept) (long : n ≤ length xs) (ordered : sorted earlier (take n xs) ≡ true) (is : first ≡ prefix (startsBy a) (take n xs))
     (inside : first + free < n) (read : k ≡ getD xs (first + free) k) where

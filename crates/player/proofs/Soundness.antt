@@ -77,7 +77,7 @@ module _ (p : Player) (k : Kept) (r : Rows Kept) (n : ℕ)
         (
           λ s i. omega (arith, one-kept (state p) k new (p .sound .3 .0) s i, ap (λ l. length (kept-by (keptAs s i) l)) placed-is),
           ap (none (activeAt (p .head .playhead .ms))) placed-is
-            ∙ none-placed earlier earlier-opposite earlier-further (activeAt (p .head .playhead .ms)) k (items (p .kept)) off (p .sound .3 .1),
+              ∙ none-placed earlier earlier-opposite earlier-further (activeAt (p .head .playhead .ms)) k (items (p .kept)) off (p .sound .3 .1),
         ),
       )
 
@@ -140,8 +140,8 @@ module _ (p : Player) (pick : Kept → Bool) where
           (
             λ s i. omega (arith, single-moved (p .head .playhead) pick (state p) (p .sound .3 .0) s i, ap (λ l. length (kept-by (usedAs s i) l)) used-is, ap (λ l. length (kept-by (keptAs s i) l)) kept-is),
             ap (λ t. none (activeAt (t .ms)) (items k)) same
-              ∙ ap (none (activeAt (p .head .playhead .ms))) kept-is
-              ∙ none-filtered (fails pick) (activeAt (p .head .playhead .ms)) (items (p .kept)) (p .sound .3 .1),
+                ∙ ap (none (activeAt (p .head .playhead .ms))) kept-is
+                ∙ none-filtered (fails pick) (activeAt (p .head .playhead .ms)) (items (p .kept)) (p .sound .3 .1),
           ),
         )
 
@@ -178,8 +178,8 @@ module _ (p : Player) (pick : Kept → Bool) (k : Rows Kept)
         (
           λ s i. omega (arith, fewer-of s i, count-apart (keptAs s i) pick (items (p .kept)), ap (λ l. length (kept-by (keptAs s i) l)) kept-is, p .sound .3 .0 s i),
           ap (λ t. none (activeAt (t .ms)) (items k)) same
-            ∙ ap (none (activeAt (p .head .playhead .ms))) kept-is
-            ∙ none-filtered (fails pick) (activeAt (p .head .playhead .ms)) (items (p .kept)) (p .sound .3 .1),
+              ∙ ap (none (activeAt (p .head .playhead .ms))) kept-is
+              ∙ none-filtered (fails pick) (activeAt (p .head .playhead .ms)) (items (p .kept)) (p .sound .3 .1),
         ),
       )
 
@@ -194,6 +194,6 @@ moved-sound p q t pick kept-is left = (
   (
     q .sound .3 .0,
     ap (none (activeAt (t .ms))) kept-is
-      ∙ none-of (fails pick) (activeAt (p .head .playhead .ms)) (activeAt (t .ms)) (items (p .kept)) (λ k e n. left k e (not-true (pick k) n)) (p .sound .3 .1),
+        ∙ none-of (fails pick) (activeAt (p .head .playhead .ms)) (activeAt (t .ms)) (items (p .kept)) (λ k e n. left k e (not-true (pick k) n)) (p .sound .3 .1),
   ),
 )

@@ -4,13 +4,14 @@
 --   due w t             the kept events that start after the playhead and up to t, in order
 --   reach w free t      how far a play to t comes: all the way where what is due fits the free places,
 --                       else one millisecond before the start of the first due event for which no place is left
+--   Furthest w free t u the furthest time up to t by which everything that starts fits the free places
 --   toldTo h ds         the sink with more dispatches told
 --   toldBy f k          the dispatch of an event at the position that f gives
 --   atStart k           the dispatch of an event at its start
 --   markedAll ks u      the used ids with those of the events among them
 --   moved t p w         the player at t, without the kept events that pass p, their ids used
 --   plays t w h         what a play answers and leaves: 20 past the latest time, 21 behind the playhead
-use Prim.Native.Nat.{ℕ, _-_}
+use Prim.Native.Nat.{ℕ, _-_, _<_, _≤_}
 use mathlib.Core.Bool.{Bool, cond, not, _&&_}
 use mathlib.Core.List.{List, [], _∷_, _++_, map}
 use lib.Dec.{leb, ltb}
@@ -46,6 +47,12 @@ reachBefore (k ∷ ks) t = starts k - 1
 
 abbrev pub reach : State → ℕ → ℕ → ℕ
 reach w free t = reachBefore (drop free (due w t)) t
+
+pub record Furthest (w : State) (free t u : ℕ) : Type 0 where
+  pub not-back : w .playhead .ms ≤ u
+  pub not-past : u ≤ t
+  pub fits : length (due w u) ≤ free
+  pub none-further : (v : ℕ) → u < v → v ≤ t → free < length (due w v)
 
 abbrev pub toldTo : Held → List Dispatch → Held
 toldTo h ds = record { told = h .told ++ ds; free = h .free - length ds }

@@ -4,14 +4,14 @@ ghost use mathlib.Core.Bool.{true, false};
 ghost use mathlib.Core.List.{map};
 ghost use lib.ListN.{length};
 ghost use Prim.Native.Nat.{_+_, _≤_};
-ghost use Rattle.std.specs.Results.{isOk};
+ghost use Rattle.std.specs.Results.{Cases, isOk};
 ghost use Rattle.std.specs.shelf.Lists.{kept-by};
 ghost use Rattle.event.specs.declared.modes.Trigger.the-variants.{Start};
 ghost use Rattle.event.specs.Fronts.{front};
 ghost use Rattle.event.specs.Numbers.{answer};
 ghost use Rattle.event.specs.Times.{time};
 ghost use Rattle.player.specs.Elements.{dispatched, idBefore};
-ghost use Rattle.player.specs.Plays.{markedAll, moved, plays, reach, toldBy, toldTo};
+ghost use Rattle.player.specs.Plays.{Furthest, markedAll, moved, plays, reach, toldBy, toldTo};
 ghost use Rattle.player.specs.Rows.{items};
 ghost use Rattle.player.specs.Seeks.{seeks};
 ghost use Rattle.player.specs.State.{Lent, ids, state};
@@ -106,6 +106,7 @@ impl Player<'_> {
     // Plays to a time: tells what starts after the playhead and up to it, as far as the sink has places for all of one start.
     pub fn play<S: Sink>(&mut self, to: u64, sink: &mut S) -> Result<Played, Refusal>
         ensures after { λ r. ⌜ (answer r, state (now (self .exit)), held (now (sink .exit))) ≡ plays to (state (now (self .entry))) (held (now (sink .entry))) ⌝ }
+        ensures furthest { λ r. ⌜ Cases r (λ p. Furthest (state (now (self .entry))) (held (now (sink .entry)) .free) to (p .playhead .ms)) (λ _. Unit {0}) ⌝ }
         ensures lent { λ _. ⌜ Lent (now (self .entry)) (now (self .exit)) ⌝ }
         ensures same { λ r. ⌜ (isOk r ≡ false → (now (self .exit) ≡ now (self .entry)) × (now (sink .exit) ≡ now (sink .entry))) ⌝ }
     {

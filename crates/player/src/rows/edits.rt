@@ -18,6 +18,7 @@ impl<T: Ordered> Rows<'_, T> {
         requires room { ⌜ now self .len < length (now (now self .slots)) ⌝ }
         requires sorted { ⌜ sorted before (items (now self)) ≡ true ⌝ }
         ensures items { λ _. ⌜ items (now (self .exit)) ≡ placed before x (items (now (self .entry))) ⌝ }
+        ensures ordered { λ _. ⌜ sorted before (items (now (self .exit))) ≡ true ⌝ }
         ensures slots { λ _. ⌜ now (now (self .exit) .slots) ≡ front (placed before x (items (now (self .entry)))) (now (now (self .entry) .slots)) ⌝ }
         ensures places { λ _. ⌜ length (now (now (self .exit) .slots)) ≡ length (now (now (self .entry) .slots)) ⌝ }
         ensures len { λ _. ⌜ now (self .exit) .len ≡ now (self .entry) .len + 1 ⌝ }

@@ -37,9 +37,11 @@ ghost-self c =
     let used = c .remove-2 .ensures in
     let h : Head = record { streams = p .head .streams; playhead = p .head .playhead; modes = p .head .modes; «kept_ids» = c .count-self .result } in
     let ordered = ap (sorted idBefore) (used .items) ∙ sorted-filtered idBefore (fails (usedIn (c .args .stream))) (items (p .used)) (p .sound .1 .1) in
-    let fewer = used-fewer p (usedIn (c .args .stream)) (c .remove-2 .last .self) (used .len) in
-    (forget-sound p (keptIn (c .args .stream)) (c .remove .last .self) (kept .items) (kept .len) (kept .places) h (c .remove-2 .last .self) ordered fewer (used .places) (c .count-self .ensures) refl
-      (λ s i. omega (arith, count-apart (usedAs s i) (usedIn (c .args .stream)) (items (p .used)), ap (λ l. length (kept-by (usedAs s i) l)) (used .items))), tt)
+    let fewer = used-fewer p (usedIn (c .args .stream)) (c .remove-2 .last .self) (used .len) in (
+      forget-sound p (keptIn (c .args .stream)) (c .remove .last .self) (kept .items) (kept .len) (kept .places) h (c .remove-2 .last .self) ordered fewer (used .places) (c .count-self .ensures) refl
+          (λ s i. omega (arith, count-apart (usedAs s i) (usedIn (c .args .stream)) (items (p .used)), ap (λ l. length (kept-by (usedAs s i) l)) (used .items))),
+      tt,
+    )
 
 pub sub-result : need.sub-result
 sub-result c =

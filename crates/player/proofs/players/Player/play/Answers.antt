@@ -8,7 +8,7 @@ use Rattle.player.specs.Rows.{items}
 use Rattle.player.specs.State.{state}
 use Rattle.player.proofs.Playing.{played, plays-back, plays-late}
 use Rattle.player.proofs.Reaching.{due-fits}
-use Rattle.player.proofs.Outcomes.{reach-within, still-over}
+use Rattle.player.proofs.Outcomes.{furthest-reach, reach-within, still-over}
 use Rattle.player.proofs.Soundness.{lent-same, moved-sound}
 use Rattle.player.proofs.players.Player.play.Needs as need
 
@@ -17,6 +17,7 @@ returns-in-rest g c =
     let p = c .args .self .now in
     record {
       after = plays-late (c .args .to) (state p) _ (made-none (c .args .to) (c .in-rest .ensures tt));
+      furthest = tt;
       lent = lent-same p;
       same = λ _. (refl, refl);
     }
@@ -27,6 +28,7 @@ returns-then-ms g c =
     let made = made-some (c .args .to) (c .in-Some .target) (c .in-Some .ensures tt) in
     record {
       after = plays-back (c .args .to) (state p) _ (made .0) (omega (arith, made .1));
+      furthest = tt;
       lent = lent-same p;
       same = λ _. (refl, refl);
     }
@@ -62,6 +64,7 @@ returns g c =
     record {
       after = played (c .args .to) w (state (c .tell-kept-told .last .self)) h (g .S·Sink .held (c .tell-kept-told .last .sink)) (c .tell-kept-told .result) (c .reach-playhead .result)
           (made .0) (omega (arith, made .1)) reached (told .value) (told .after) (told .told);
+      furthest = furthest-reach (c .args .to) w h (c .reach-playhead .result .ms) (p .sound .1 .0) (omega (arith, made .1)) reached;
       lent = told .lent;
       same = λ f. absurd (true≢false f);
     }

@@ -2,8 +2,8 @@ use mathlib.Core.Path.{refl, ap, _∙_}
 use Prim.Native.Nat.{_+_}
 use lib.ListN.{take, length}
 use Rattle.player.specs.Rows.{items}
-use Rattle.player.specs.Tables.{placed}
-use Rattle.player.proofs.InOrder.{sorted-leads, length-placed}
+use Rattle.player.specs.Tables.{placed, sorted}
+use Rattle.player.proofs.InOrder.{length-placed, placed-sorted, sorted-leads}
 use Rattle.player.proofs.Fronts.{inserted, length-front, take-front}
 use Rattle.std.proofs.shelf.Lists.{length-take-le}
 use native.Mathlib.Omega.{arith}
@@ -21,8 +21,11 @@ returns g c =
     let ys = placed (g .T·Ordered .before) (c .args .x) (take n xs) in
     let slots = inserted (g .T·Ordered .before) (c .args .x) xs n (c .ahead-count .result) _ (c .rotate-right .last .self)
     (c .pre .room) (c .ahead-count .ensures .value) (c .ahead-count .ensures .bound) refl (c .rotate-right .ensures .after) in
+    let items-is = ap (take (n + 1)) slots ∙ take-front ys xs (n + 1) (omega (arith, length-placed (g .T·Ordered .before) (c .args .x) (take n xs), length-take-le n xs (omega arith))) in
+    let laws = g .T·Ordered·met in
     record {
-      items = ap (take (n + 1)) slots ∙ take-front ys xs (n + 1) (omega (arith, length-placed (g .T·Ordered .before) (c .args .x) (take n xs), length-take-le n xs (omega arith)));
+      items = items-is;
+      ordered = ap (sorted (g .T·Ordered .before)) items-is ∙ placed-sorted (g .T·Ordered .before) (laws .opposite) (laws .further) (c .args .x) (take n xs) (c .pre .sorted);
       slots = slots;
       places = ap length slots ∙ length-front ys xs (omega (arith, length-placed (g .T·Ordered .before) (c .args .x) (take n xs), length-take-le n xs (omega arith)));
       len = refl;
