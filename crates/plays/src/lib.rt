@@ -7,3 +7,5 @@ mod feeds;
 mod scripts;
 #[cfg(test)]
 mod tests;
+#[cfg(test)]
+mod twins;

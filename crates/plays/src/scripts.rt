@@ -35,7 +35,7 @@ pub(crate) const AMPLE: Places = Places {
 };
 
 // A dispatch that no list expects, for unused slots.
-fn unused() -> Dispatch {
+pub(crate) fn unused() -> Dispatch {
     told(0, Trigger::Receive, event(None, 0, None))
 }
 
