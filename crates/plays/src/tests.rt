@@ -12,6 +12,9 @@ use event::Mode;
 use event::Time;
 use event::Trigger;
 use player::Drawn;
+use player::Kept;
+use player::Tables;
+use player::UsedId;
 use std::test::*;
 
 // The first call of most lists: stream 0 is followed on start.
@@ -270,8 +273,11 @@ fn events_full() -> Result<(), Fail> {
         (Call::Draw(event(Some(2), 500, None)), Said::Refused(22)),
         (Call::Draw(event(None, 500, None)), Said::Refused(22)),
         (Call::Draw(event(Some(1), 500, None)), REPEAT),
+        (Call::Draw(in_stream(Some(1), active)), PASSED),
         (Call::Draw(active), SENT),
         (Call::Draw(active), Said::Refused(24)),
+        (Call::Seek(100), Said::Count(0)),
+        (Call::Draw(event(Some(2), 99, Some(0))), OVER),
     ];
     let one = Places {
         events: 1,
@@ -386,4 +392,98 @@ fn evict_range() -> Result<(), Fail> {
         (Call::Draw(ahead), KEPT),
     ];
     script(AMPLE, &steps, &[told(0, Trigger::Start, active)])
+}
+
+// Evicting and leaving give back the id places of what they remove.
+#[test]
+fn places_given_back() -> Result<(), Fail> {
+    let first = arrived(100, event(Some(1), 500, None));
+    let second = arrived(200, event(Some(2), 500, None));
+    let third = arrived(299, event(Some(3), 500, None));
+    let steps = [
+        FOLLOWED,
+        (Call::Draw(first), KEPT),
+        (Call::Draw(second), KEPT),
+        (Call::Draw(third), Said::Refused(23)),
+        (Call::Evict(100, 200), Said::Count(1)),
+        (Call::Draw(third), KEPT),
+        (Call::Draw(first), Said::Refused(23)),
+        (Call::Evict(200, 300), Said::Count(2)),
+        (Call::Draw(first), KEPT),
+        (Call::Draw(second), KEPT),
+        (Call::Leave(0), Said::Count(2)),
+        FOLLOWED,
+        (Call::Draw(third), KEPT),
+        (Call::Draw(first), KEPT),
+    ];
+    let two = Places {
+        events: 8,
+        ids: 2,
+        dispatches: 1,
+    };
+    script(two, &steps, &[])
+}
+
+// A play that halts before the first millisecond stays at 0.
+#[test]
+fn halt_at_zero() -> Result<(), Fail> {
+    let now = event(Some(1), 0, Some(0));
+    let steps = [
+        FOLLOWED,
+        (Call::Draw(now), SENT),
+        (Call::Draw(event(Some(2), 1, None)), KEPT),
+        (Call::Play(5), Said::Reached(0, 0)),
+        (Call::Play(0), Said::Reached(0, 0)),
+    ];
+    let one = Places {
+        events: 1,
+        ids: 2,
+        dispatches: 1,
+    };
+    script(one, &steps, &[told(0, Trigger::Start, now)])
+}
+
+// At the latest time a start is told, an unknown duration still runs, and an end may lie beyond.
+#[test]
+fn latest() -> Result<(), Fail> {
+    let open = event(Some(1), 1, None);
+    let last = event(Some(2), Time::LATEST, Some(Time::LATEST));
+    let steps = [
+        FOLLOWED,
+        (Call::Draw(last), KEPT),
+        (Call::Draw(open), KEPT),
+        (Call::Seek(Time::LATEST - 1), Said::Count(1)),
+        (Call::Play(Time::LATEST), Said::Reached(1, Time::LATEST)),
+        (Call::Draw(last), REPEAT),
+    ];
+    let expected = [
+        told(Time::LATEST - 1, Trigger::Start, open),
+        told(Time::LATEST, Trigger::Start, last),
+    ];
+    script(AMPLE, &steps, &expected)
+}
+
+// Whether tables of these sizes are taken; else they are refused with 15.
+fn sizes(events: usize, ids: usize) -> Result<bool, Fail> {
+    let mut kept = [Kept::EMPTY; 257];
+    let mut used = [UsedId::EMPTY; 1025];
+    check(events <= 257 && ids <= 1025)?;
+    match Tables::new(&mut kept[0..events], &mut used[0..ids]) {
+        Ok(_) => Ok(true),
+        Err(refusal) => {
+            check(refusal.number() == 15)?;
+            Ok(false)
+        }
+    }
+}
+
+// Tables have 1 to 256 places for events and 1 to 1,024 for ids.
+#[test]
+fn table_sizes() -> Result<(), Fail> {
+    check(sizes(1, 1)?)?;
+    check(sizes(256, 1024)?)?;
+    check(!sizes(0, 1)?)?;
+    check(!sizes(1, 0)?)?;
+    check(!sizes(257, 1)?)?;
+    check(!sizes(1, 1025)?)
 }
