@@ -67,12 +67,13 @@ struct Source<'a> {
     segment: usize,
 }
 
-// What a player and its sink show at the end, message places set aside.
+// What a player and its sink show at the end: the dispatches have their message places set aside, and `place` is the third one's.
 #[derive(Clone, Copy)]
 struct Outcome {
     playhead: u64,
     kept: usize,
     count: usize,
+    place: u32,
     told: [Dispatch; 5],
     tally: Tally,
 }
@@ -224,6 +225,11 @@ fn set_aside(mut told: [Dispatch; 5]) -> [Dispatch; 5] {
     told
 }
 
+// The message place of the third dispatch.
+fn third_place(told: [Dispatch; 5]) -> u32 {
+    told[2].message.place
+}
+
 // Plays whole, and tells a record list of five slots.
 fn on_list(source: Source) -> Result<Outcome, Fail> {
     let mut kept = [Kept::EMPTY; 8];
@@ -241,6 +247,7 @@ fn on_list(source: Source) -> Result<Outcome, Fail> {
         playhead: player.playhead().ms(),
         kept: player.kept_count(),
         count,
+        place: third_place(told),
         told: set_aside(told),
         tally,
     })
@@ -261,6 +268,7 @@ fn on_log(source: Source) -> Result<Outcome, Fail> {
         playhead: player.playhead().ms(),
         kept: player.kept_count(),
         count,
+        place: third_place(told),
         told: set_aside(told),
         tally,
     })
@@ -315,6 +323,7 @@ fn stops_change_nothing() -> Result<(), Fail> {
     check(whole.playhead == 3999 && stopped.playhead == 3999)?;
     check(whole.kept == 2 && stopped.kept == 2)?;
     check(whole.count == 4 && stopped.count == 4)?;
+    check(whole.place == 51 && stopped.place == 89)?;
     check(whole.told == expected())?;
     check(stopped.told == expected())?;
     check_eq(whole.tally, stopped.tally)?;
