@@ -22,6 +22,7 @@ use std::test::*;
 
 mod cuts;
 mod making;
+mod segments;
 mod sheets;
 
 // Stream 0 is `a` with no value, stream 1 is `urn` with value `v1`.
