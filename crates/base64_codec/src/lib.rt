@@ -1,4 +1,6 @@
 // Base64 of RFC 4648, section 4: padding required, no other character, unused bits 0.
+#![tactic(auto)]
+
 mod alphabet;
 mod decoding;
 mod encoding;

@@ -1,4 +1,6 @@
 // The catalogue of streams, each named by a pair of scheme and value.
+#![tactic(auto)]
+
 pub mod catalogues;
 pub mod pairs;
 

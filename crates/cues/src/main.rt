@@ -1,4 +1,6 @@
 // cues: runs the run sheet on standard input, and prints the lines that it reports.
+#![tactic(auto)]
+
 use event::{Dispatch, Message, Span, Time, Trigger};
 use player::{Kept, Player, Tables, UsedId};
 use run::{Opening, Run};

@@ -1,4 +1,6 @@
 // What the commands of a run sheet do to a player and its sink, and the worked examples.
+#![tactic(auto)]
+
 pub mod performing;
 pub mod worked;
 

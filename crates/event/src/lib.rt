@@ -1,4 +1,6 @@
 // The vocabulary: times, events, dispatches, modes, refusals, and what a feed and a sink are.
+#![tactic(auto)]
+
 pub mod dispatches;
 pub mod events;
 pub mod faults;

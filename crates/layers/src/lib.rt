@@ -1,4 +1,6 @@
 // Layers: feeds that are made over any feed.
+#![tactic(auto)]
+
 pub mod joins;
 pub mod periods;
 

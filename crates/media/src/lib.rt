@@ -1,4 +1,6 @@
 // The media buffer: stretches of it, timescales, and walks over the records that stand in it.
+#![tactic(auto)]
+
 pub mod stretches;
 pub mod timescales;
 pub mod walks;

@@ -1,4 +1,6 @@
 // The player: kept events and used ids in ordered tables, and the calls that play them.
+#![tactic(auto)]
+
 pub mod players;
 pub mod rows;
 pub mod runs;

@@ -1,4 +1,6 @@
 // The calls on a player, tried: this program shows two players at the same calls, and the tests hold lists of calls to the answers and dispatches that the rules give.
+#![tactic(auto)]
+
 mod calls;
 mod feeds;
 #[cfg(test)]

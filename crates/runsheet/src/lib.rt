@@ -1,4 +1,6 @@
 // Run sheets: the catalogue at the front, and the commands behind it.
+#![tactic(auto)]
+
 pub mod commands;
 pub mod sheets;
 

@@ -1,4 +1,6 @@
 // Sinks over lent memory: the record list and the byte log.
+#![tactic(auto)]
+
 pub mod lists;
 pub mod logs;
 pub mod reading;

@@ -1,4 +1,6 @@
 // Whole runs: run sheets beside the lines that the rules give for them.
+#![tactic(auto)]
+
 #[cfg(test)]
 mod calls;
 #[cfg(test)]
