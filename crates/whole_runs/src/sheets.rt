@@ -6,6 +6,7 @@ use std::test::*;
 #[test]
 fn faults(rt: HostRuntime) -> Result<(), Fail> {
     cases(
+        &rt,
         rt.alloc(),
         "# 11 mark
          SV a -
@@ -132,6 +133,7 @@ fn faults(rt: HostRuntime) -> Result<(), Fail> {
 #[test]
 fn fault_order(rt: HostRuntime) -> Result<(), Fail> {
     cases(
+        &rt,
         rt.alloc(),
         "# order
          SV a -
@@ -164,6 +166,7 @@ fn fault_order(rt: HostRuntime) -> Result<(), Fail> {
 #[test]
 fn latest(rt: HostRuntime) -> Result<(), Fail> {
     cases(
+        &rt,
         rt.alloc(),
         "# starts
          SV a -
@@ -227,6 +230,7 @@ fn latest(rt: HostRuntime) -> Result<(), Fail> {
 #[test]
 fn periods(rt: HostRuntime) -> Result<(), Fail> {
     cases(
+        &rt,
         rt.alloc(),
         "# periods
          SV a -
@@ -265,6 +269,7 @@ fn periods(rt: HostRuntime) -> Result<(), Fail> {
 #[test]
 fn messages(rt: HostRuntime) -> Result<(), Fail> {
     cases(
+        &rt,
         rt.alloc(),
         "# messages
          SV a -

@@ -6,6 +6,7 @@ use std::test::*;
 #[test]
 fn events(rt: HostRuntime) -> Result<(), Fail> {
     cases(
+        &rt,
         rt.alloc(),
         "# 64
          SV a -
@@ -106,6 +107,7 @@ fn events(rt: HostRuntime) -> Result<(), Fail> {
 #[test]
 fn ids(rt: HostRuntime) -> Result<(), Fail> {
     cases(
+        &rt,
         rt.alloc(),
         "# 256
          SV a -
@@ -242,6 +244,7 @@ fn ids(rt: HostRuntime) -> Result<(), Fail> {
 #[test]
 fn list(rt: HostRuntime) -> Result<(), Fail> {
     cases(
+        &rt,
         rt.alloc(),
         "# 256
          SV a -
