@@ -13,10 +13,9 @@
 --   receives e w h     the first fitting line for a record
 --   stepped a c        what is to come after the answer: a record that was not refused is gone
 --   draws c w h        what a draw answers, and leaves of the player, the sink and what is to come
-use Rattle.std.specs.Prelude.{ℕ, ◌+◌, Bool, true, false, cond, not, ◌&&◌, ◌||◌, List, [], length, Some, None, Option, nat_le, nat_lt}
+use Rattle.std.specs.Prelude.{ℕ, ◌+◌, Bool, false, cond, ◌&&◌, ◌||◌, List, length, Some, None, Option, nat_le, nat_lt}
 use Rattle.event.specs.declared.dispatches.Dispatch.{Dispatch}
 use Rattle.event.specs.declared.events.Event.{Event}
-use Rattle.event.specs.declared.feeds.Ending.{Ending}
 use Rattle.event.specs.declared.feeds.Ending.TheVariants.{Clean, Broken}
 use Rattle.event.specs.declared.feeds.Look.{Look}
 use Rattle.event.specs.declared.feeds.Look.TheVariants.{Record, Ended}

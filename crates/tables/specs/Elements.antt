@@ -11,7 +11,7 @@
 --   used_as s i n        a used id that is this one
 --   kept_as s i k        a kept event with this id, of this stream
 --   dispatched t m k    the dispatch of an event at t
-use Rattle.std.specs.Prelude.{ℕ, Bool, true, false, cond, ◌&&◌, is_some, Some, None, Option, ◌==◌, nat_lt}
+use Rattle.std.specs.Prelude.{ℕ, Bool, false, cond, ◌&&◌, is_some, Some, None, Option, ◌==◌, nat_lt}
 use Rattle.event.specs.declared.dispatches.Dispatch.{Dispatch}
 use Rattle.event.specs.declared.events.Event.{Event}
 use Rattle.event.specs.declared.modes.Trigger.{Trigger}

@@ -7,7 +7,7 @@
 --   without p xs        the elements that do not pass p, in their order
 --   leading p xs        what passes p stands in front of all that does not
 --   prefix p xs         how many elements stand before the first that does not pass p
-use Rattle.std.specs.Prelude.{ℕ, suc, Bool, true, false, cond, not, ◌&&◌, List, [], ◌∷◌, filter}
+use Rattle.std.specs.Prelude.{ℕ, suc, Bool, true, cond, not, ◌&&◌, List, [], ◌∷◌, filter}
 
 abbrev pub none : {X : Type 0} → (X → Bool) → List X → Bool
 none p [] = true
