@@ -1,9 +1,9 @@
 -- The text of a line.
 --   or_dash o   a number, or a dash where there is none
---   letter t   R on receive, S on start
---   words ws   texts with a space between each two
---   text l     the first line; position, letter, stream, id, start, duration and message length of a dispatch;
---              the record and the number of a refusal, and the number of the fault that it carries; the last line
+--   letter t    R on receive, S on start
+--   words ws    texts with a space between each two
+--   text l      the first line; position, letter, stream, id, start, duration and message length of a dispatch;
+--               the record and the number of a refusal, and the number of the fault that it carries; the last line
 use Rattle.std.specs.Prelude.{ℕ, List, [], ◌∷◌, ◌++◌, Some, None, codes, decimal, Option}
 use Rattle.std.specs.Option.{option_map}
 use Rattle.event.specs.declared.dispatches.Dispatch.{Dispatch}
