@@ -9,7 +9,7 @@
 --   OnceWhileFollowed w   in every run from w: from a follow of a stream on start that is not refused, for as long as it stays followed, what is told is once and while active
 --   NoneKeptActive w      after every run from w no kept event is active at the playhead
 use Rattle.std.specs.Prelude.{◌≡◌, ℕ, ◌≤◌, Bool, true, false, not, ◌&&◌, List, [], ◌∷◌, length, drop, filter, ◌==◌}
-use Rattle.std.specs.List.{AllByRecursion as All}
+use Rattle.std.specs.List.{AllByRecursion}
 use Rattle.event.specs.declared.dispatches.Dispatch.{Dispatch}
 use Rattle.event.specs.declared.modes.Mode.TheVariants.{OnStart}
 use Rattle.event.specs.Spans.{active}
@@ -45,7 +45,7 @@ since w v = drop (length w.sink.told) v.sink.told
 
 pub record Once (s : ℕ) (ds : List Dispatch) : Type 0 where
   pub once : (i : ℕ) → length (filter (tells_id s i) ds) ≤ 1
-  pub active : All WhileActive (filter (tells_of s) ds)
+  pub active : AllByRecursion WhileActive (filter (tells_of s) ds)
 
 abbrev pub OnceWhileFollowed : World → Type 0
 OnceWhileFollowed w =

@@ -1,5 +1,5 @@
 // Run sheets whose catalogue is refused, and those whose catalogue is full.
-use crate::lines::cases;
+use crate::reports::cases;
 use std::test::*;
 
 // Streams are numbered as they are listed; a pair is another one when either part differs.

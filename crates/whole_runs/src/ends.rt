@@ -1,5 +1,5 @@
 // Where the reading of a run sheet ends, and how records are counted.
-use crate::lines::cases;
+use crate::reports::cases;
 use std::test::*;
 
 // 65,536 bytes are read, and one more is 5, whatever they are.

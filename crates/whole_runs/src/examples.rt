@@ -1,6 +1,6 @@
 // The bundled run sheets.
-use crate::lines::reports;
 use crate::records::run_sheet;
+use crate::reports::reports;
 use std::process::Abort;
 use std::test::*;
 

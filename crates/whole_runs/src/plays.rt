@@ -1,5 +1,5 @@
 // What is told in whole runs, and when.
-use crate::lines::cases;
+use crate::reports::cases;
 use std::test::*;
 
 // Streams that are not followed, not listed or left are passed; on receive tells all at the playhead, again and again.

@@ -1,5 +1,5 @@
 // Segments in whole runs: each number of making and reading, and the times that they give.
-use crate::lines::cases;
+use crate::reports::cases;
 use std::test::*;
 
 // The times of a segment: 6, then 9, then 10; each before any box is read.

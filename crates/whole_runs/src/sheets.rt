@@ -1,5 +1,5 @@
 // Sheets in whole runs: each fault, what was drawn before it, and the times at their limits.
-use crate::lines::cases;
+use crate::reports::cases;
 use std::test::*;
 
 // Each fault of a sheet; what stands before it was drawn, and what stands behind it is dropped.

@@ -1,5 +1,5 @@
 // Tables and the list when nearly full and full: 64 kept events, 256 ids, 256 dispatches.
-use crate::lines::cases;
+use crate::reports::cases;
 use std::test::*;
 
 // 64 events are kept; the next is 22. What is passed, a repeat or told at once is not refused, and a place that is given back is used again.

@@ -1,5 +1,5 @@
 // What each command is refused for; a refusal of these ends nothing and changes nothing.
-use crate::lines::cases;
+use crate::reports::cases;
 use std::test::*;
 
 // Follow: 16, then 17, then 18.
