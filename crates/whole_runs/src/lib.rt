@@ -12,6 +12,8 @@ mod ends;
 #[cfg(test)]
 mod examples;
 #[cfg(test)]
+mod full_tables;
+#[cfg(test)]
 mod plays;
 #[cfg(test)]
 mod records;
@@ -21,5 +23,3 @@ mod reports;
 mod segments;
 #[cfg(test)]
 mod sheets;
-#[cfg(test)]
-mod tables;
