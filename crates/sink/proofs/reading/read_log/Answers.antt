@@ -6,14 +6,14 @@ use Rattle.sink.proofs.reading.read_log.Goals as goal
 
 pub returns-then-count-list : goal.returns-then-count-list
 returns-then-count-list c =
-    let bytes = c.args.bytes.now in let list = c.args.list.now in let count = c.div-ceil-count.result in
+    let bytes = c.args.bytes.now in let list = c.args.list.now in let count = c.div_ceil-count.result in
     let whole : count ≡ pieces bytes = omega arith in
-    placed_not count bytes list (sym c.in-default.ensures) c.if-count-list.true ∙ ap (λ k. placed (read_up_to k bytes) list) whole
+    placed_not count bytes list (sym c.in_default.ensures) c.if-count-list.true ∙ ap (λ k. placed (read_up_to k bytes) list) whole
 
 pub returns : goal.returns
 returns c =
-    let bytes = c.args.bytes.now in let list = c.args.list.now in let count = c.div-ceil-count.result in
+    let bytes = c.args.bytes.now in let list = c.args.list.now in let count = c.div_ceil-count.result in
     let whole : count ≡ pieces bytes = omega arith in
     ap (λ ds. (did count, ds)) c.fill.ensures
-    ∙ placed_all count bytes list (sym c.in-default.ensures) c.if-count-list.false
+    ∙ placed_all count bytes list (sym c.in_default.ensures) c.if-count-list.false
     ∙ ap (λ k. placed (read_up_to k bytes) list) whole

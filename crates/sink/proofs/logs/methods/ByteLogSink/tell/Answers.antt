@@ -5,8 +5,8 @@ use Rattle.sink.specs.Logs.{held_in_log}
 use Rattle.sink.specs.Reading.{dispatches}
 use Rattle.sink.proofs.logs.methods.ByteLogSink.tell.Goals as goal
 
-pub invariant-of-self : goal.invariant-of-self
-invariant-of-self c = ((omega arith, ap is_ok c.put.ensures.reads), tt)
+pub invariant_of-self : goal.invariant_of-self
+invariant_of-self c = record { readable = (omega arith, ap is_ok c.put.ensures.reads) }
 
 pub returns : goal.returns
 returns c =

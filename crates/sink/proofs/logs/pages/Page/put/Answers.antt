@@ -11,7 +11,7 @@ returns c =
     let n = c.args.self.now.count in
     let cs = c.written.result in
     let long : length cs ≡ 40 = search rules in
-    let same = c.copy-from-slice.ensures.after in
+    let same = c.copy_from_slice.ensures.after in
     let bytes : _ ≡ front (used n xs ++ cs) xs = rw same (put_front (40 * n) (40 * n + 40 - 40 * n) xs cs (omega arith) (omega arith)) in
     let g = grown xs _ cs n (n + 1) c.args.dispatch c.requires.room c.requires.readable long c.written.ensures.undone bytes refl in
     record {
