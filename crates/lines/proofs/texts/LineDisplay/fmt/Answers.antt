@@ -1,4 +1,4 @@
-use Rattle.std.proofs.Common.{◌≡◌, [], ◌∷◌, decimal, sym, ap, ◌∙◌, subst, append_assoc}
+use Rattle.std.proofs.Common.{[], ◌∷◌, decimal, sym, ap, ◌∙◌, subst, append_assoc}
 use Rattle.std.specs.Fmt.{HasWritten}
 use Rattle.lines.specs.Texts.{or_dash, refused, text, words}
 use Rattle.lines.proofs.texts.LineDisplay.fmt.Goals as goal
