@@ -1,5 +1,5 @@
 -- Decoding undoes encoding.
-use Rattle.std.proofs.Common.{◌≡◌, ℕ, ◌+◌, ◌/◌, ◌%◌, ◌<◌, true, false, eqb, List, [], ◌∷◌, ◌++◌, sym, refl, ap, ◌∙◌, arith}
+use Rattle.std.proofs.Common.{◌≡◌, ℕ, ◌/◌, ◌%◌, ◌<◌, true, false, eqb, List, [], ◌∷◌, ◌++◌, sym, refl, ap, ◌∙◌, arith}
 use Rattle.std.proofs.lemmas.Bool.{cond-false, eq-eqb, lt-ltb}
 use Rattle.std.specs.List.{AllByRecursion as All}
 use Rattle.base64_codec.specs.Alphabet.{digit, padding, value}

@@ -1,5 +1,5 @@
 -- A walk is its first turn and then the walk over what is left.
-use Rattle.std.proofs.Common.{◌≡◌, ℕ, zero, suc, ◌+◌, ◌-◌, ◌<◌, ◌≤◌, List, ◌∷◌, length, drop, refl, ap, arith}
+use Rattle.std.proofs.Common.{◌≡◌, ℕ, zero, suc, ◌+◌, ◌<◌, ◌≤◌, List, ◌∷◌, length, drop, refl, ap, arith}
 use Rattle.std.proofs.lemmas.List.{length-drop}
 use Rattle.media.specs.Walks.{Forward, Goes, Walked, given, given_by, onward}
 use Rattle.media.specs.declared.walks.Turn.{Turn}

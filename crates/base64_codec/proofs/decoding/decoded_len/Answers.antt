@@ -3,8 +3,8 @@ use Rattle.std.proofs.lemmas.Bool.Decides.{nat_tests}
 use Rattle.base64_codec.proofs.Sizes.{sized}
 use Rattle.base64_codec.proofs.decoding.decoded_len.Goals as goal
 
-pub overflow-sub-result : goal.overflow-sub-result
-overflow-sub-result c = let s = sized c.args.text.now c.requires in grind (arith, nat_tests)
+pub overflow_sub-result : goal.overflow_sub-result
+overflow_sub-result c = let s = sized c.args.text.now c.requires in grind (arith, nat_tests)
 
 pub returns : goal.returns
 returns c = let s = sized c.args.text.now c.requires in grind (arith, nat_tests)

@@ -6,12 +6,12 @@ use Rattle.base64_codec.proofs.decoding.unpack.Goals as goal
 pub loop-rest-init : goal.loop-rest-init
 loop-rest-init c = start _ _
 
-pub unpack-four-at-requires : goal.unpack-four-at-requires
-unpack-four-at-requires c = room c.loop-rest.invariant _ _ (decoded_on c.loop-rest.rest.now (search rules)) (search rules)
+pub unpack_four-at-requires : goal.unpack_four-at-requires
+unpack_four-at-requires c = room c.loop-rest.invariant _ _ (decoded_on c.loop-rest.rest.now (search rules)) (search rules)
 
 pub loop-rest-preserved : goal.loop-rest-preserved
 loop-rest-preserved c =
-    next c.loop-rest.invariant _ _ _ _ (decoded_on c.loop-rest.rest.now (search rules)) (search rules) c.unpack-four-at.ensures.after c.unpack-four-at.ensures.value
+    next c.loop-rest.invariant _ _ _ _ (decoded_on c.loop-rest.rest.now (search rules)) (search rules) c.unpack_four-at.ensures.after c.unpack_four-at.ensures.value
 
 pub returns : goal.returns
 returns c = done c.loop-rest.invariant (decoded_end c.loop-rest.rest.now (search rules))

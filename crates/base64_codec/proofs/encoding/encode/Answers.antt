@@ -11,7 +11,7 @@ returns-then-out-groups c =
     let s = encoded_sized c.args.bytes.now in
     record {
       encodes = grind (arith, nat_tests);
-      undone = undone c.args.bytes.now (All-from_get_or Byte c.args.bytes.now 0 (λ i _. (c.type-inv.bytes i).fits));
+      undone = undone c.args.bytes.now (All-from_get_or Byte c.args.bytes.now 0 (λ i _. (c.type_inv.bytes i).fits));
     }
 
 pub pack-requires : goal.pack-requires
@@ -22,5 +22,5 @@ returns c =
     let s = encoded_sized c.args.bytes.now in
     record {
       encodes = grind (arith, nat_tests);
-      undone = undone c.args.bytes.now (All-from_get_or Byte c.args.bytes.now 0 (λ i _. (c.type-inv.bytes i).fits));
+      undone = undone c.args.bytes.now (All-from_get_or Byte c.args.bytes.now 0 (λ i _. (c.type_inv.bytes i).fits));
     }

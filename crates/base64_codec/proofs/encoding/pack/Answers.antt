@@ -16,8 +16,9 @@ loop-rest-preserved c =
     next c.loop-rest.invariant (digits_front c.loop-rest.rest.now) _ _ 4 (encoded_on c.loop-rest.rest.now (search rules)) (search rules)
     (c.put.ensures ∙ ap (λ l. front l (left c.loop-rest.invariant)) c.four.ensures) refl
 
-pub pack-last-requires : goal.pack-last-requires
-pack-last-requires c = (search rules, room c.loop-rest.invariant _ _ (sym (append-nil _)) (search rules))
+pub pack_last-requires : goal.pack_last-requires
+pack_last-requires c =
+    record { rest_len_bound = search rules; rest_in_bounds = room c.loop-rest.invariant _ _ (sym (append-nil _)) (search rules) }
 
 pub returns : goal.returns
-returns c = done (next c.loop-rest.invariant _ _ _ _ (sym (append-nil _)) (search rules) c.pack-last.ensures refl) refl
+returns c = done (next c.loop-rest.invariant _ _ _ _ (sym (append-nil _)) (search rules) c.pack_last.ensures refl) refl

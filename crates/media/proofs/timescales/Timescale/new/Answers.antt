@@ -1,4 +1,4 @@
-use Rattle.std.proofs.Common.{true, Some, refl, ap}
+use Rattle.std.proofs.Common.{Some, refl, ap}
 use Rattle.std.proofs.lemmas.Bool.{and_from, le-leb}
 use Rattle.media.proofs.Fractions.{timescale_of}
 use Rattle.media.proofs.timescales.Timescale.new.Goals as goal

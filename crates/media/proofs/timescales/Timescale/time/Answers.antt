@@ -1,4 +1,4 @@
-use Rattle.std.proofs.Common.{◌<◌, cond, leb, Some, None, sym, ap, ◌∙◌, arith}
+use Rattle.std.proofs.Common.{◌<◌, cond, leb, Some, None, sym, ap, ◌∙◌}
 use Rattle.std.proofs.lemmas.Bool.{cond-false, lt-leb}
 use Rattle.event.specs.Times.{latest, time}
 use Rattle.media.specs.Timescales.{millis}
