@@ -1,11 +1,11 @@
 -- One more stream in a catalogue.
-use Rattle.std.proofs.Common.{◌≡◌, ℕ, ◌+◌, ◌<◌, min, Bool, true, false, cond, not, leb, List, [], ◌∷◌, ◌++◌, map, length, take, set, is_some, Some, None, Option, sym, ap, ◌∙◌, arith}
+use Rattle.std.proofs.Common.{◌≡◌, ℕ, ◌+◌, ◌<◌, cond, not, leb, List, [], ◌∷◌, ◌++◌, map, length, take, set, is_some, Some, None, Option, ap, ◌∙◌, arith}
 use Rattle.std.specs.Option.{option_map}
 use Rattle.std.proofs.lemmas.List.{length-map, length-take, map_push, take_more_set}
 use Rattle.std.proofs.lemmas.Bool.{cond_both, leb-false}
 use Rattle.event.specs.declared.refusals.Refusal.{Refusal}
 use Rattle.event.specs.declared.refusals.Refusal.TheVariants.{CatalogueString, ListedTwice, CatalogueFull}
-use Rattle.catalogue.specs.Catalogues.{added, behind, ends, flaw, listed, named, number, settled}
+use Rattle.catalogue.specs.Catalogues.{added, behind, flaw, named, number, settled}
 use Rattle.catalogue.specs.Pairs.{Stream, proper}
 use Rattle.catalogue.specs.declared.catalogues.Entry.{Entry}
 

@@ -1,5 +1,5 @@
 -- Strings as they stand in records.
-use Rattle.std.proofs.Common.{◌≡◌, ℕ, ◌+◌, ◌-◌, ◌≤◌, Bool, true, ◌&&◌, eqb, leb, List, length, get_or, take, drop, Some, None, Decides, Option, sym, refl, ap, ◌∙◌, subst, arith}
+use Rattle.std.proofs.Common.{◌≡◌, ℕ, ◌+◌, ◌-◌, ◌≤◌, Bool, true, ◌&&◌, eqb, leb, List, length, get_or, take, drop, Some, None, Option, sym, refl, ap, ◌∙◌, subst, arith}
 use Rattle.std.specs.List.{IsAnyAnswer, between}
 use Rattle.std.proofs.lemmas.List.Elements.{contains_decides}
 use Rattle.std.proofs.lemmas.List.{drop-drop, length-drop, length-take-le, take_rest}
@@ -20,7 +20,7 @@ listing_from bs r p q l e =
     sym (cond-true _ (fronted (get_or bs 2 0) (get_or bs 3 0) (drop 4 bs)) None (and_from _ _ (marked_from 83 86 bs p q) (le-leb 4 (length bs) l)))
 
 -- whether a 0 byte is among the bytes, as a search for it says
-pub blank_from : (bs : List ℕ) (r : Bool) → IsAnyAnswer (λ y t. Decides t (y ≡ 0)) bs r → r ≡ blank bs
+pub blank_from : (bs : List ℕ) (r : Bool) → IsAnyAnswer (λ y t. eqb y 0 ≡ t) bs r → r ≡ blank bs
 blank_from bs r h =
     same_from_decides r (blank bs) (contains_decides eqb Decides-eqb bs 0 r h) (Decides-by_or (λ b. eqb b 0) (λ b. b ≡ 0) blank (λ b. Decides-eqb b 0) refl (λ _ _. refl) bs)
 

@@ -10,7 +10,7 @@
 --   ends m e         the place behind an entry, and its stream
 --   settled o p ts   the answer and the list once that is judged: at a refusal the list stays
 --   added at o ts    the answer and the list after the record at a place, where o is its stream; 1 where it has none
-use Rattle.std.specs.Prelude.{◌≡◌, ℕ, ◌+◌, ◌<◌, ◌≤◌, Bool, true, cond, not, List, [], ◌∷◌, ◌++◌, map, length, take, is_some, Some, None, Option, nat_le, slice_index_or}
+use Rattle.std.specs.Prelude.{◌≡◌, ℕ, ◌+◌, ◌<◌, ◌≤◌, true, cond, not, List, [], ◌∷◌, ◌++◌, map, length, take, is_some, Some, None, Option, nat_le, slice_index_or}
 use Rattle.std.specs.List.{between, AllByRecursion as All}
 use Rattle.event.specs.Numbers.{Answer, refusal}
 use Rattle.event.specs.Numbers.Answer.{did, refused}

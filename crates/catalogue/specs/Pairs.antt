@@ -8,8 +8,7 @@
 --   same s t          both strings are the same, byte for byte
 --   blank bs          a 0 byte is among the bytes
 --   proper s          the scheme is not empty, and neither string holds a 0 byte
-use Rattle.std.specs.Prelude.{ℕ, ◌+◌, Bool, true, false, cond, not, ◌&&◌, ◌||◌, List, [], ◌∷◌, length, take, drop, Some, None, Option, ◌==◌, nat_le, slice_index}
-use Rattle.std.specs.Option.{option_map}
+use Rattle.std.specs.Prelude.{ℕ, ◌+◌, Bool, false, cond, not, ◌&&◌, ◌||◌, List, [], ◌∷◌, length, take, drop, Some, None, Option, ◌==◌, nat_le, slice_index}
 use Rattle.std.specs.Str.{bytes_eq}
 use Rattle.catalogue.specs.declared.pairs.Pair.{Pair}
 

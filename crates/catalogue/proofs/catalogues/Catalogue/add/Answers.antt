@@ -6,7 +6,7 @@ use Rattle.catalogue.specs.Catalogues.{ends, listed}
 use Rattle.catalogue.specs.Pairs.{listing}
 use Rattle.catalogue.proofs.Listings.{free, pushed, room, settled_at}
 use Rattle.catalogue.proofs.catalogues.Catalogue.add.Goals as goal
-use Rattle.catalogue.proofs.catalogues.Catalogue.add.Goals.{In-default-flaw}
+use Rattle.catalogue.proofs.catalogues.Catalogue.add.Goals.{In_default-flaw}
 
 pub returns-in-Some-flaw : goal.returns-in-Some-flaw
 returns-in-Some-flaw c =
@@ -16,24 +16,24 @@ returns-in-Some-flaw c =
       over = refl;
     }
 
-has_room : (c : In-default-flaw) → length (listed c.args.self.now) < 32
-has_room c = room (ends c.args.self.now.stretch.media.now c.in-Some.entry).1 (listed c.args.self.now) c.in-default-flaw.ensures
+has_room : (c : In_default-flaw) → length (listed c.args.self.now) < 32
+has_room c = room (ends c.args.self.now.stretch.media.now c.in-Some.entry).1 (listed c.args.self.now) c.in_default-flaw.ensures
 
 pub bounds-self-self : goal.bounds-self-self
 bounds-self-self c =
-    free c.args.self.now.stretch.media.now c.args.self.now.entries c.args.self.now.count (omega arith) (has_room (goal.at.bounds-self-self c).In-default-flaw)
+    free c.args.self.now.stretch.media.now c.args.self.now.entries c.args.self.now.count (omega arith) (has_room (goal.at.bounds-self-self c).In_default-flaw)
 
-pub overflow-add-self : goal.overflow-add-self
-overflow-add-self c =
-    let h = free c.args.self.now.stretch.media.now c.args.self.now.entries c.args.self.now.count (omega arith) (has_room (goal.at.overflow-add-self c).In-default-flaw) in
+pub overflow_add-self : goal.overflow_add-self
+overflow_add-self c =
+    let h = free c.args.self.now.stretch.media.now c.args.self.now.entries c.args.self.now.count (omega arith) (has_room (goal.at.overflow_add-self c).In_default-flaw) in
     omega arith
 
 pub returns : goal.returns
 returns c =
     let l : length c.args.self.now.entries ≡ 32 = omega arith in
-    let h = free c.args.self.now.stretch.media.now c.args.self.now.entries c.args.self.now.count l (has_room (goal.at.returns c).In-default-flaw) in
+    let h = free c.args.self.now.stretch.media.now c.args.self.now.entries c.args.self.now.count l (has_room (goal.at.returns c).In_default-flaw) in
     record {
-      lists = ap (λ ts. (did c.in-Some.entry.end, ts)) (pushed c.args.self.now.stretch.media.now c.args.self.now.entries c.args.self.now.count c.in-Some.entry (omega arith)) ∙ settled_at c.args.place (listing (left c.args.self.now.stretch c.args.place)) (listed c.args.self.now) None (ends c.args.self.now.stretch.media.now c.in-Some.entry) c.in-Some.ensures c.in-default-flaw.ensures;
+      lists = ap (λ ts. (did c.in-Some.entry.end, ts)) (pushed c.args.self.now.stretch.media.now c.args.self.now.entries c.args.self.now.count c.in-Some.entry (omega arith)) ∙ settled_at c.args.place (listing (left c.args.self.now.stretch c.args.place)) (listed c.args.self.now) None (ends c.args.self.now.stretch.media.now c.in-Some.entry) c.in-Some.ensures c.in_default-flaw.ensures;
       same = λ q. absurd (true≢false q);
       over = refl;
     }

@@ -1,7 +1,5 @@
-use Rattle.std.proofs.Common.{◌≡◌, true, false, List, map, sym, ap, ◌∙◌}
-use Rattle.std.proofs.lemmas.List.{at_drop_all, length-map}
-use Rattle.catalogue.specs.Catalogues.{named, number, number_from, sought}
-use Rattle.catalogue.specs.declared.catalogues.Entry.{Entry}
+use Rattle.std.proofs.Common.{true, false, map, sym, ap, ◌∙◌}
+use Rattle.catalogue.specs.Catalogues.{named, number, sought}
 use Rattle.catalogue.proofs.Entries.{looks, none_left}
 use Rattle.catalogue.proofs.catalogues.Catalogue.find.Goals as goal
 
