@@ -1,5 +1,4 @@
-use Rattle.std.proofs.Common.{◌+◌, ◌≤◌, length, ap, ◌∙◌, arith}
-use Rattle.media.specs.Stretches.{left}
+use Rattle.std.proofs.Common.{length, ap, arith}
 use Rattle.media.proofs.Parts.{part_fits}
 use Rattle.sheet.specs.SheetRecords.{ev}
 use Rattle.sheet.proofs.Lengths.{ev_long}
