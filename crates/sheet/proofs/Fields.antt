@@ -1,11 +1,11 @@
 -- Records of a sheet that are read field by field.
-use Rattle.std.proofs.Common.{◌≡◌, ℕ, ◌+◌, ◌-◌, ◌<◌, ◌≤◌, true, leb, List, length, get_or, take, drop, Some, None, Option, sym, ap, ◌∙◌}
+use Rattle.std.proofs.Common.{◌≡◌, ℕ, ◌+◌, ◌-◌, ◌≤◌, List, length, get_or, take, drop, Some, None, sym, ap, ◌∙◌}
 use Rattle.std.proofs.lemmas.List.{take_rest}
 use Rattle.std.proofs.lemmas.Bool.{and_from, cond-true, le-leb}
 use Rattle.media.specs.BigEndian.{num16, num32, num64}
 use Rattle.catalogue.specs.Pairs.{Stream, fronted}
 use Rattle.catalogue.proofs.Strings.{marked_from}
-use Rattle.sheet.specs.SheetRecords.{Es, Ev, es_fields, es_record, ev_fields, ev_record, whole}
+use Rattle.sheet.specs.SheetRecords.{es_fields, es_record, ev_fields, ev_record, whole}
 
 pub es_from : (bs : List ℕ) (t o : ℕ) (s : Stream) → get_or bs 0 0 ≡ 69 → get_or bs 1 0 ≡ 83 → 16 ≤ length bs → t ≡ num32 bs 2 → o ≡ num64 bs 6 → Some s ≡ fronted (get_or bs 14 0) (get_or bs 15 0) (take (length bs - 16) (drop 16 bs)) → Some (record { timescale = t; offset = o; named = s; length = 16 + get_or bs 14 0 + get_or bs 15 0 }) ≡ es_record bs
 es_from bs t o s p q l et eo e =

@@ -1,5 +1,5 @@
 -- Records of a sheet end within its bytes, so that each turn goes forward.
-use Rattle.std.proofs.Common.{◌≡◌, ℕ, ◌+◌, ◌<◌, ◌≤◌, ◌&&◌, eqb, leb, List, length, get_or, take, drop, Some, None, Ok, Err, Option, Result, refl, ap, arith}
+use Rattle.std.proofs.Common.{◌≡◌, ℕ, ◌+◌, ◌≤◌, ◌&&◌, eqb, leb, List, length, get_or, take, drop, Some, None, Ok, Err, Option, Result, refl, arith}
 use Rattle.std.proofs.lemmas.List.{length-drop}
 use Rattle.std.proofs.lemmas.Bool.{and_parts, cond_both, leb-true}
 use Rattle.event.specs.declared.events.Event.{Event}
@@ -12,7 +12,7 @@ use Rattle.media.specs.Walks.{Forward, Goes}
 use Rattle.media.specs.declared.walks.Turn.TheVariants.{Clean, Broken, Passes}
 use Rattle.catalogue.specs.Pairs.{Stream, front, fronted, marked}
 use Rattle.sheet.specs.SheetRecords.{Es, Ev, es_fields, es_record, ev_fields, ev_record, whole}
-use Rattle.sheet.specs.SheetWalks.{SheetTurn, ev_gives, ev_turn, read_turn, sheet_turn}
+use Rattle.sheet.specs.SheetWalks.{ev_gives, ev_turn, read_turn, sheet_turn}
 use Rattle.sheet.specs.Sheets.{event_of, opened}
 use Rattle.sheet.specs.declared.sheets.EventStream.{EventStream}
 

@@ -1,6 +1,5 @@
 -- One turn of a walk over a sheet, and what is left behind it.
-use Rattle.std.proofs.Common.{◌≡◌, ℕ, ◌+◌, ◌-◌, ◌<◌, ◌≤◌, List, [], length, drop, Option, sym, refl, ap, ◌∙◌, subst, arith}
-use Rattle.event.specs.Feeds.{Coming}
+use Rattle.std.proofs.Common.{◌≡◌, ℕ, ◌+◌, ◌<◌, ◌≤◌, [], length, drop, Option, sym, ap, ◌∙◌, subst, arith}
 use Rattle.event.specs.declared.events.Event.{Event}
 use Rattle.event.specs.declared.faults.Fault.{Fault}
 use Rattle.event.specs.declared.feeds.Ending.TheVariants as ending

@@ -29,21 +29,21 @@ stopped_in : (s : Stretch) (a b : Catalogue) (at : ℕ) (e : Refusal) → a.stre
 stopped_in s a b at e over same mark q =
     at_stop s at (listed a) e mark (ap (λ x. (refusal e, listed x)) (sym same) ∙ q ∙ ap (λ x. added at (listing (left x at)) (listed a)) over)
 
-pub returns-in-err-self : goal.returns-in-err-self
-returns-in-err-self c =
+pub returns-in_err-self : goal.returns-in_err-self
+returns-in_err-self c =
     let s = c.args.self.now in
     let at = c.loop-self.self.place in
     let ts = listed c.loop-self.catalogue in
     let inv = c.loop-self.invariant in
-    let p = err_from_is_err_and c.from-residual.result c.from-residual.ensures.1 in
-    let told = c.in-err-self.ensures in
-    let e = c.in-err-self.field-0.0 in
+    let p = err_from_is_err_and c.from_residual.result c.from_residual.ensures.1 in
+    let told = c.in_err-self.ensures in
+    let e = c.in_err-self.field-0.0 in
     let mark = mark_is c.loop-self.self.stretch s.stretch at c.left.result.now true inv.0 c.left.ensures c.loop-self-test.ensures in
     let stop = subst (λ w. Stopped w ts e) inv.2 (stopped_in s.stretch c.loop-self.catalogue c.add.new.self at e inv.1 (told.same (refl {a = false})) mark told.lists) in
     rw (p.1, p.2) (record {
       lists = stop.lists;
       place = inv.3 ∙ ap (λ n. s.place + n) stop.long_as;
-      count = count_refused s.count c.loop-self.self.count c.saturating-add-self.result _ ts inv.4 c.saturating-add-self.ensures stop.records;
+      count = count_refused s.count c.loop-self.self.count c.saturating_add-self.result _ ts inv.4 c.saturating_add-self.ensures stop.records;
       over = inv.0;
     })
 
@@ -53,11 +53,11 @@ loop-self-preserved c =
     let at = c.loop-self.self.place in
     let ts = listed c.loop-self.catalogue in
     let us = listed c.add.new.self in
-    let place = c.in-ok-self.field-0 in
+    let place = c.in_ok-self.field-0 in
     let inv = c.loop-self.invariant in
     let mark = mark_is c.loop-self.self.stretch s.stretch at c.left.result.now true inv.0 c.left.ensures c.loop-self-test.ensures in
-    let one = subst (λ x. Listed at place ts us (listing (left x at))) inv.1 (listed_from at place ts us (listing (left c.loop-self.catalogue.stretch at)) c.in-ok-self.ensures.lists) in
-    (inv.0, c.add.ensures.over ∙ inv.1, at_listed s.stretch at place ts us mark one ∙ inv.2, lengths_listed s.stretch s.place at place ts us one inv.3, count_listed s.stretch s.count c.loop-self.self.count c.saturating-add-self.result at place ts us one inv.4 c.saturating-add-self.ensures)
+    let one = subst (λ x. Listed at place ts us (listing (left x at))) inv.1 (listed_from at place ts us (listing (left c.loop-self.catalogue.stretch at)) c.in_ok-self.ensures.lists) in
+    (inv.0, c.add.ensures.over ∙ inv.1, at_listed s.stretch at place ts us mark one ∙ inv.2, lengths_listed s.stretch s.place at place ts us one inv.3, count_listed s.stretch s.count c.loop-self.self.count c.saturating_add-self.result at place ts us one inv.4 c.saturating_add-self.ensures)
 
 pub returns : goal.returns
 returns c =

@@ -8,16 +8,16 @@ returns-in-Clean c = at_clean c.loop-sheet.sheet c.in-Clean.ensures ∙ c.loop-s
 pub returns-in-Broken : goal.returns-in-Broken
 returns-in-Broken c = at_broken c.loop-sheet.sheet _ c.in-Broken.ensures ∙ c.loop-sheet.invariant.0
 
-pub overflow-add-sheet : goal.overflow-add-sheet
-overflow-add-sheet c =
+pub overflow_add-sheet : goal.overflow_add-sheet
+overflow_add-sheet c =
     let h = gives_within c.loop-sheet.sheet _ _ _ c.in-Gives.ensures in
     omega (arith, c.loop-sheet.invariant.1)
 
 pub returns-in-Gives : goal.returns-in-Gives
 returns-in-Gives c = at_gives c.loop-sheet.sheet _ _ _ c.in-Gives.ensures ∙ c.loop-sheet.invariant.0
 
-pub overflow-add-sheet-in-Passes : goal.overflow-add-sheet-in-Passes
-overflow-add-sheet-in-Passes c =
+pub overflow_add-sheet-in-Passes : goal.overflow_add-sheet-in-Passes
+overflow_add-sheet-in-Passes c =
     let h = passes_within c.loop-sheet.sheet _ _ c.in-Passes.ensures in
     omega (arith, c.loop-sheet.invariant.1)
 

@@ -5,4 +5,4 @@ use Rattle.sheet.proofs.sheets.records.EsRecord.read.Goals as goal
 
 pub returns : goal.returns
 returns c =
-    es_from c.args.bytes.now _ _ _ (omega arith) (omega arith) (omega (arith, ltb-false)) c.from-be-bytes.ensures c.from-be-bytes-2.ensures c.in-ok-pair.ensures
+    es_from c.args.bytes.now _ _ _ (omega arith) (omega arith) (omega (arith, ltb-false)) c.from_be_bytes.ensures c.from_be_bytes-2.ensures c.in_ok-pair.ensures

@@ -5,4 +5,4 @@ use Rattle.sheet.proofs.sheets.records.EvRecord.read.Goals as goal
 
 pub returns : goal.returns
 returns c =
-    ev_from c.args.bytes.now _ _ _ _ _ _ (omega arith) (omega arith) (omega (arith, ltb-false)) refl c.from-be-bytes.ensures c.from-be-bytes-2.ensures c.from-be-bytes-3.ensures c.from-be-bytes-size.ensures c.in-ok-message.ensures
+    ev_from c.args.bytes.now _ _ _ _ _ _ (omega arith) (omega arith) (omega (arith, ltb-false)) refl c.from_be_bytes.ensures c.from_be_bytes-2.ensures c.from_be_bytes-3.ensures c.from_be_bytes-size.ensures c.in_ok-message.ensures
