@@ -1,5 +1,5 @@
 -- One turn over the commands of a run sheet.
-use Rattle.std.proofs.Common.{◌≡◌, ℕ, ◌+◌, ◌<◌, ◌≤◌, true, false, eqb, List, ◌∷◌, length, drop, Some, None, Ok, Err, Option, Result, sym, refl, ap, ◌∙◌, subst}
+use Rattle.std.proofs.Common.{◌≡◌, ℕ, ◌+◌, true, false, eqb, length, drop, Some, None, Ok, Err, Option, Result, sym, refl, ap, ◌∙◌, subst}
 use Rattle.std.proofs.lemmas.Bool.{cond_both, cond-false, cond-true}
 use Rattle.event.specs.declared.refusals.Refusal.{Refusal}
 use Rattle.event.specs.declared.refusals.Refusal.TheVariants.{RunSheetRecord}
@@ -11,7 +11,7 @@ use Rattle.media.specs.declared.walks.Turn.TheVariants.{Clean, Broken, Gives}
 use Rattle.media.proofs.Parts as parts
 use Rattle.media.proofs.Turns.{given_is}
 use Rattle.runsheet.specs.Commands.{Read, command}
-use Rattle.runsheet.specs.RunSheets.{Commands, command_turn, commands, length_of, next_of, rest_of, turn_of}
+use Rattle.runsheet.specs.RunSheets.{Commands, command_turn, commands, next_of, rest_of, turn_of}
 use Rattle.runsheet.specs.declared.commands.Command.{Command}
 use Rattle.runsheet.proofs.Reading.{Fits, command_fits}
 

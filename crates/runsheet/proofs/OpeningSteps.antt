@@ -1,13 +1,12 @@
 -- One turn over the catalogue records at the front of a run sheet.
-use Rattle.std.proofs.Common.{◌≡◌, ℕ, suc, ◌+◌, ◌<◌, ◌≤◌, min, true, false, eqb, List, [], ◌∷◌, ◌++◌, length, drop, Some, None, Option, sym, refl, ap, ◌∙◌, subst, append_assoc, append-nil, arith}
+use Rattle.std.proofs.Common.{◌≡◌, ℕ, suc, ◌+◌, min, true, false, eqb, List, [], ◌∷◌, ◌++◌, length, drop, Some, None, Option, sym, refl, ap, ◌∙◌, subst, append_assoc, append-nil, arith}
 use Rattle.std.proofs.lemmas.List.{length_push}
 use Rattle.std.proofs.lemmas.Bool.{cond_both, cond-false, cond-true, ne_eqb}
 use Rattle.event.specs.Numbers.{Answer, refusal}
-use Rattle.event.specs.Numbers.Answer.{did}
 use Rattle.event.specs.declared.refusals.Refusal.{Refusal}
 use Rattle.event.specs.declared.refusals.Refusal.TheVariants.{CatalogueRecord}
 use Rattle.media.specs.Stretches.{left}
-use Rattle.media.specs.Walks.{Forward, Goes, Walked, given, onward}
+use Rattle.media.specs.Walks.{Forward, Goes, given, onward}
 use Rattle.media.specs.declared.stretches.Stretch.{Stretch}
 use Rattle.media.specs.declared.walks.Turn.TheVariants.{Clean, Broken, Gives}
 use Rattle.media.proofs.Parts as parts
