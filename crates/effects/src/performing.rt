@@ -22,7 +22,7 @@ pub fn draw_all<F: Feed, S: Sink>(
     feed: &mut F,
     sink: &mut S,
 ) -> Result<(), Refusal>
-    ensures { (answer result, state player.new, held sink.new) ≡ draws_all (coming feed.old).records (coming feed.old).ending (state player.old) (held sink.old) }
+    ensures { (answer result, state player.new, S.held sink.new) ≡ draws_all (F.coming feed.old).records (F.coming feed.old).ending (state player.old) (S.held sink.old) }
 {
     loop {
         if player.draw(feed, sink)? == Drawn::End {
@@ -39,7 +39,7 @@ pub fn perform<'a, 'c, S: Sink>(
     player: &mut Player,
     sink: &mut S,
 ) -> Result<(), Refusal>
-    ensures { (answer result, state player.new, held sink.new) ≡ performs command media.now (listed catalogue.now) (state player.old) (held sink.old) }
+    ensures { (answer result, state player.new, S.held sink.new) ≡ performs command media.now (listed catalogue.now) (state player.old) (S.held sink.old) }
 {
     match command {
         Command::Follow { stream, mode } => player.follow(stream, mode),

@@ -20,7 +20,7 @@ impl<'a> Script<'a> {
         player: &mut Player,
         sink: &mut S,
     ) -> Result<(), Refusal>
-        ensures { (answer result, state player.new, held sink.new) ≡ performs command self.now.media.now (listed self.now.catalogue) (state player.old) (held sink.old) }
+        ensures { (answer result, state player.new, S.held sink.new) ≡ performs command self.now.media.now (listed self.now.catalogue) (state player.old) (S.held sink.old) }
     {
         perform(command, self.media, &self.catalogue, player, sink)
     }
