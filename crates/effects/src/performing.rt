@@ -79,7 +79,7 @@ pub fn perform<'a, 'c, S: Sink>(
 }
 
 // The timing that a segment's times give.
-fn timing(times: Times) -> Result<Timing, Refusal>
+pub fn timing(times: Times) -> Result<Timing, Refusal>
     ensures { answer result ≡ timing times.earliest times.offset times.media_ticks times.inband times.inband_ticks }
 {
     Timing::new(

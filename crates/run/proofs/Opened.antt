@@ -1,5 +1,5 @@
 -- What the opening of a run sheet leads to.
-use Rattle.std.proofs.Common.{◌≡◌, ℕ, ◌+◌, true, cond, leb, List, [], ◌∷◌, length, drop, Some, None, Ok, Err, sym, refl, ap, ◌∙◌, subst, arith}
+use Rattle.std.proofs.Common.{◌≡◌, ℕ, ◌+◌, true, leb, List, [], ◌∷◌, length, drop, Some, None, Ok, Err, sym, ap, ◌∙◌, subst, arith}
 use Rattle.std.specs.List.{between}
 use Rattle.std.proofs.lemmas.List.{take_rest}
 use Rattle.std.proofs.lemmas.Bool.{cond-true}
@@ -10,12 +10,11 @@ use Rattle.event.specs.declared.refusals.Refusal.{Refusal}
 use Rattle.media.specs.Stretches.{extent, left}
 use Rattle.catalogue.specs.CatalogueWalks.{all_listed}
 use Rattle.catalogue.specs.Catalogues.{listed}
-use Rattle.catalogue.specs.Pairs.{Stream}
 use Rattle.calls.specs.State.{State}
 use Rattle.runsheet.specs.Openings.{lengths, more, opening, opening_of, records_in}
 use Rattle.runsheet.specs.RunSheets.{commands, commands_in}
 use Rattle.runsheet.specs.declared.sheets.RunSheet.{RunSheet}
-use Rattle.run.specs.Lines.{behind, closing, listed_in, opened, reports, sheet_lines, streams_in}
+use Rattle.run.specs.Lines.{behind, closing, listed_in, opened, reports, sheet_lines}
 use Rattle.run.specs.Openings as openings
 use Rattle.run.specs.Openings.{Opens, coming}
 use Rattle.lines.specs.declared.lines.Line.{Line}

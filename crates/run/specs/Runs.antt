@@ -11,7 +11,7 @@
 --   idle r            nothing is left to report of what was performed, and there is more to read
 --   unread s          how many commands there are to read, and the end behind them; 0 where nothing is read
 --   to_read r         the same of a run
-use Rattle.std.specs.Prelude.{◌≡◌, ℕ, suc, ◌+◌, ◌^◌, ◌<◌, Bool, true, false, ◌&&◌, List, [], ◌∷◌, length, drop, is_some, is_ok, Some, None, Option, nat_le}
+use Rattle.std.specs.Prelude.{◌≡◌, ℕ, suc, ◌+◌, ◌^◌, ◌<◌, Bool, ◌&&◌, List, [], ◌∷◌, length, drop, is_some, is_ok, Some, None, Option, nat_le}
 use Rattle.event.specs.Numbers.{answer}
 use Rattle.event.specs.Sinks.{Held}
 use Rattle.event.specs.declared.dispatches.Dispatch.{Dispatch}

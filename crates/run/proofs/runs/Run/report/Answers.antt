@@ -14,7 +14,7 @@ returns-in-Err c =
     let r = c.args.self.now in
     let rest = onward r.script (playing r) (holding r) in
     let ds = drop r.shown (holding r).told in
-    let none = drop_all r.shown (holding r).told c.in-default.ensures in
+    let none = drop_all r.shown (holding r).told c.in_default.ensures in
     let after = ap (λ s. left_at s (reports ds r.count (did tt) rest)) c.requires.middle ∙ ap (λ x. reports x r.count (did tt) rest) none in
     record {
       lines =
@@ -27,7 +27,7 @@ returns-in-Err c =
 pub returns-in-Ok : goal.returns-in-Ok
 returns-in-Ok c =
     let r = c.args.self.now in
-    let all = c.in-default.ensures in
+    let all = c.in_default.ensures in
     let b = leb (length (holding r).told) r.shown in
     let fine : is_ok r.done ≡ true = ap is_ok c.in-Ok.is in
     let busy = ap (λ x. is_some r.script && (x && b)) (sym fine) ∙ c.requires.busy in

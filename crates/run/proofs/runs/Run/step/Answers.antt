@@ -1,4 +1,4 @@
-use Rattle.std.proofs.Common.{◌≡◌, ◌<◌, [], length, drop, Some, sym, refl, ap, ◌∙◌, subst, arith}
+use Rattle.std.proofs.Common.{◌<◌, [], drop, Some, sym, refl, ap, ◌∙◌, subst, arith}
 use Rattle.std.proofs.lemmas.List.{drop_all}
 use Rattle.event.specs.Numbers.{answer, refusal}
 use Rattle.catalogue.specs.Catalogues.{listed}
@@ -11,17 +11,17 @@ use Rattle.run.specs.Runs.{holding, playing, unread}
 use Rattle.run.proofs.Reports.{behind_command, behind_end, behind_stop, idle_is, idle_pending, less_to_read, played_command, played_end, played_stop, reported}
 use Rattle.run.proofs.runs.Run.step.Goals as goal
 
-pub returns-in-default-next : goal.returns-in-default-next
-returns-in-default-next c =
+pub returns-in_default-next : goal.returns-in_default-next
+returns-in_default-next c =
     let r = c.args.self.now in
     let s = c.in-Some.script in
     let all = c.told-self.ensures in
     record {
       lines =
           reported (holding r).told c.told-self.result r.count r.done (closing (playing r)) (idle_is r c.requires).fine (omega arith) ∙
-          behind_end s.media.now (listed s.catalogue) s.sheet.count (playing r) (holding r) (commands_in s.sheet) c.in-default-next.ensures.value ∙
+          behind_end s.media.now (listed s.catalogue) s.sheet.count (playing r) (holding r) (commands_in s.sheet) c.in_default-next.ensures.value ∙
           idle_pending r s c.requires c.in-Some.is;
-      ending = played_end s.media.now (listed s.catalogue) s.sheet.count (playing r) (holding r) (commands_in s.sheet) c.in-default-next.ensures.value ∙ ap (λ o. outcome o (playing r) (holding r)) (sym c.in-Some.is);
+      ending = played_end s.media.now (listed s.catalogue) s.sheet.count (playing r) (holding r) (commands_in s.sheet) c.in_default-next.ensures.value ∙ ap (λ o. outcome o (playing r) (holding r)) (sym c.in-Some.is);
       stage = refl;
       less = subst (λ o. 0 < unread o) (sym c.in-Some.is) (omega arith);
     }
