@@ -2,7 +2,7 @@
 use Rattle.std.proofs.Common.{◌≡◌, ℕ, ◌/◌, ◌%◌, ◌<◌, true, false, ◌&&◌, eqb, List, [], ◌∷◌, ◌++◌, sym, refl, ap, ◌∙◌, subst, ⊎_elim, append-nil, arith}
 use Rattle.std.proofs.ByRecursion.{All-append, All-take}
 use Rattle.std.proofs.lemmas.Bool.{and_parts, cases_Bool, cond_both, cond-false, eqb-true, false≢true, ltb-true, or_cases}
-use Rattle.std.specs.List.{AllByRecursion as All}
+use Rattle.std.specs.List.{AllByRecursion}
 use Rattle.base64_codec.specs.Alphabet.{padding, value}
 use Rattle.base64_codec.specs.Laws.{Byte, Exact, Restored}
 use Rattle.base64_codec.specs.Texts.{accepted, octets, decoded, digits, encoded, full, group, joined, known, packed, padded}
@@ -104,16 +104,16 @@ restored (a ∷ b ∷ c ∷ d ∷ e ∷ rest) h =
     restored_full a b c d (decoded (e ∷ rest)) (e ∷ rest) f (restored (e ∷ rest) on)
 
 -- what is decoded is bytes
-eight : (n : ℕ) → All Byte (octets n)
+eight : (n : ℕ) → AllByRecursion Byte (octets n)
 eight n = (omega arith, (omega arith, (omega arith, tt)))
 
-group_eight : (a b c d : ℕ) → All Byte (group a b c d)
+group_eight : (a b c d : ℕ) → AllByRecursion Byte (group a b c d)
 group_eight a b c d =
-    cond_both (eqb d padding) _ _ (All Byte)
-    (λ _. cond_both (eqb c padding) _ _ (All Byte) (λ _. All-take Byte 1 (octets (joined (value a) (value b) 0 0)) (eight _)) (λ _. All-take Byte 2 (octets (joined (value a) (value b) (value c) 0)) (eight _)))
+    cond_both (eqb d padding) _ _ (AllByRecursion Byte)
+    (λ _. cond_both (eqb c padding) _ _ (AllByRecursion Byte) (λ _. All-take Byte 1 (octets (joined (value a) (value b) 0 0)) (eight _)) (λ _. All-take Byte 2 (octets (joined (value a) (value b) (value c) 0)) (eight _)))
     (λ _. eight (joined (value a) (value b) (value c) (value d)))
 
-pub decoded_bytes : (t : List ℕ) → All Byte (decoded t)
+pub decoded_bytes : (t : List ℕ) → AllByRecursion Byte (decoded t)
 unfolding decoded
 decoded_bytes [] = tt
 decoded_bytes (a ∷ []) = tt

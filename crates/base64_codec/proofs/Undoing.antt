@@ -1,7 +1,7 @@
 -- Decoding undoes encoding.
 use Rattle.std.proofs.Common.{◌≡◌, ℕ, ◌/◌, ◌%◌, ◌<◌, true, false, eqb, List, [], ◌∷◌, ◌++◌, sym, refl, ap, ◌∙◌, arith}
 use Rattle.std.proofs.lemmas.Bool.{cond-false, eq-eqb, lt-ltb}
-use Rattle.std.specs.List.{AllByRecursion as All}
+use Rattle.std.specs.List.{AllByRecursion}
 use Rattle.base64_codec.specs.Alphabet.{digit, padding, value}
 use Rattle.base64_codec.specs.Laws.{Byte, Undone}
 use Rattle.base64_codec.specs.Texts.{accepted, octets, decoded, encoded, full, group, joined, known, packed, padded}
@@ -77,7 +77,7 @@ undone_two a b ha hb =
       rw (unlike, one, two, three, whole, first_byte a b 0 ha hb (omega arith), second_byte a b 0 ha hb (omega arith)),
     )
 
-pub undone : (bs : List ℕ) → All Byte bs → Undone bs
+pub undone : (bs : List ℕ) → AllByRecursion Byte bs → Undone bs
 unfolding accepted decoded encoded
 undone [] h = (refl, refl)
 undone (a ∷ []) h = undone_one a h.0

@@ -4,7 +4,7 @@
 --   Restored t   encoding the bytes of a base64 text gives it back
 --   Exact t      a text is base64 exactly if it is the text of some bytes
 use Rattle.std.specs.Prelude.{◌≡◌, ℕ, ◌<◌, true, List, Decides}
-use Rattle.std.specs.List.{AllByRecursion as All}
+use Rattle.std.specs.List.{AllByRecursion}
 use Rattle.base64_codec.specs.Texts.{accepted, decoded, encoded}
 
 abbrev pub Byte : ℕ → Type 0
@@ -17,4 +17,4 @@ abbrev pub Restored : List ℕ → Type 0
 Restored t = accepted t ≡ true → encoded (decoded t) ≡ t
 
 abbrev pub Exact : List ℕ → Type 0
-Exact t = Decides (accepted t) ((bs : List ℕ) × All Byte bs × (encoded bs ≡ t))
+Exact t = Decides (accepted t) ((bs : List ℕ) × AllByRecursion Byte bs × (encoded bs ≡ t))

@@ -7,11 +7,11 @@ use Rattle.tables.proofs.Filtered.{count_placed}
 use Rattle.tables.specs.declared.elements.Kept.{Kept}
 use Rattle.tables.specs.declared.elements.UsedId.{UsedId}
 use Rattle.calls.specs.Draws.{known, known_as, marked, marked_as}
-use Rattle.tables.specs.Elements.{id_before, kept_as, name_of, named, same_id, used_as}
+use Rattle.tables.specs.Elements.{id_before, kept_as, name_of, same_id, used_as}
 use Rattle.calls.specs.Once.{tells_id}
 use Rattle.calls.specs.Plays.{marked_all, told_by}
 use Rattle.calls.specs.State.{State}
-use Rattle.tables.specs.Tables.{any, none, tied, without}
+use Rattle.tables.specs.Tables.{any, none, without}
 
 -- how many elements pass
 abbrev pub count : {X : Type 0} → (X → Bool) → List X → ℕ

@@ -1,7 +1,6 @@
 -- How each line of a draw goes.
-use Rattle.std.proofs.Common.{◌≡◌, ℕ, ◌+◌, ◌<◌, ◌≤◌, Bool, true, false, cond, not, ◌&&◌, leb, List, length, Some, None, Option, sym, refl, ap, ◌∙◌, inl, inr, arith}
+use Rattle.std.proofs.Common.{◌≡◌, ℕ, ◌+◌, ◌<◌, ◌≤◌, true, false, cond, leb, List, length, Some, None, Option, sym, ap, inl, inr, arith}
 use Rattle.std.proofs.lemmas.Bool.{cases_Bool, le-leb, le-ltb, lt-leb, lt-ltb, leb-false}
-use Rattle.std.proofs.lemmas.Bool.Decides.{nat_tests}
 use Rattle.event.specs.declared.faults.Fault.{Fault}
 use Rattle.event.specs.declared.feeds.Ending.TheVariants.{Clean, Broken}
 use Rattle.event.specs.declared.feeds.Look.TheVariants.{Ended}

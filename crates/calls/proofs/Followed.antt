@@ -1,6 +1,6 @@
 -- What is told of a stream while it stays followed on start.
 use Rattle.std.proofs.Common.{◌≡◌, ℕ, ◌+◌, ◌<◌, ◌≤◌, Bool, true, false, cond, not, eqb, ltb, leb, List, [], ◌∷◌, ◌++◌, map, length, get_or, drop, set, filter, sym, refl, ap, ◌∙◌, subst, inl, inr, arith}
-use Rattle.std.specs.List.{AllByRecursion as All}
+use Rattle.std.specs.List.{AllByRecursion}
 use Rattle.std.proofs.lemmas.List.Elements.{filter-append}
 use Rattle.std.proofs.ByRecursion.{All-append}
 use Rattle.std.proofs.lemmas.List.{append_assoc, append-nil, drop_at, get_or-set_other, get_or-set_same, length-append}
@@ -32,7 +32,7 @@ record Watched (s : ℕ) (base : List Dispatch) (w : World) : Type 0 where
   news : List Dispatch
   told : w.sink.told ≡ base ++ news
   used : (i : ℕ) → count (tells_id s i) news ≤ count (used_as s i) w.player.used
-  active : All WhileActive (filter (tells_of s) news)
+  active : AllByRecursion WhileActive (filter (tells_of s) news)
 
 count_append : {X : Type 0} (p : X → Bool) (xs ys : List X) → count p (xs ++ ys) ≡ count p xs + count p ys
 count_append p xs ys = ap length (filter-append p xs ys) ∙ length-append (filter p xs) (filter p ys)
@@ -41,14 +41,14 @@ count_append p xs ys = ap length (filter-append p xs ys) ∙ length-append (filt
 module _ (s : ℕ) (base : List Dispatch) (w v : World) (so_far : Watched s base w) (ds : List Dispatch)
     (same-mode : mode_of v.player s ≡ mode_of w.player s) (Tells-more : v.sink.told ≡ w.sink.told ++ ds)
     (marks-more : (i : ℕ) → count (used_as s i) w.player.used + count (tells_id s i) ds ≤ count (used_as s i) v.player.used)
-    (on : All WhileActive (filter (tells_of s) ds)) where
+    (on : AllByRecursion WhileActive (filter (tells_of s) ds)) where
   watched_more : Watched s base v
   watched_more = record {
     mode = same-mode ∙ so_far.mode;
     news = so_far.news ++ ds;
     told = Tells-more ∙ ap (λ l. l ++ ds) so_far.told ∙ append_assoc base so_far.news ds;
     used = λ i. omega (arith, count_append (tells_id s i) so_far.news ds, so_far.used i, marks-more i);
-    active = subst (All WhileActive) (sym (filter-append (tells_of s) so_far.news ds)) (All-append WhileActive (filter (tells_of s) so_far.news) (filter (tells_of s) ds) so_far.active on);
+    active = subst (AllByRecursion WhileActive) (sym (filter-append (tells_of s) so_far.news ds)) (All-append WhileActive (filter (tells_of s) so_far.news) (filter (tells_of s) ds) so_far.active on);
   }
 
 -- nothing more was told
@@ -66,13 +66,13 @@ watched_same s base w v so_far m t u = record {
 of_id : (s i : ℕ) (d : Dispatch) → tells_of s d ≡ false → count (tells_id s i) (d ∷ []) ≡ 0
 of_id s i d e = elim (cases_Bool (tells_id s i d)) [ inl t ↦ absurd (both_ways (tells_of s d) e (and_parts _ (eqb d.stream s) t).1) | inr f ↦ rw f ]
 
-one_active : (s : ℕ) (d : Dispatch) → WhileActive d → All WhileActive (filter (tells_of s) (d ∷ []))
+one_active : (s : ℕ) (d : Dispatch) → WhileActive d → AllByRecursion WhileActive (filter (tells_of s) (d ∷ []))
 one_active s d e = elim (cases_Bool (tells_of s d)) [ inl t ↦ rw t (e, tt) | inr f ↦ rw f tt ]
 
-none_active_lem : (s : ℕ) (d : Dispatch) → tells_of s d ≡ false → All WhileActive (filter (tells_of s) (d ∷ []))
+none_active_lem : (s : ℕ) (d : Dispatch) → tells_of s d ≡ false → AllByRecursion WhileActive (filter (tells_of s) (d ∷ []))
 none_active_lem s d e = rw e tt
 
-all_active : (s : ℕ) (p : Kept → Bool) (f : Kept → Time) → ((k : Kept) → p k ≡ true → active_at (f k).ms k ≡ true) → (ks : List Kept) → All WhileActive (filter (tells_of s) (map (told_by f) (filter p ks)))
+all_active : (s : ℕ) (p : Kept → Bool) (f : Kept → Time) → ((k : Kept) → p k ≡ true → active_at (f k).ms k ≡ true) → (ks : List Kept) → AllByRecursion WhileActive (filter (tells_of s) (map (told_by f) (filter p ks)))
 all_active s p f on [] = tt
 all_active s p f on (k ∷ ks) =
     let ih = all_active s p f on ks in

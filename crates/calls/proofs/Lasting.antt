@@ -1,27 +1,22 @@
 -- What holds after every call, where it held before.
-use Rattle.std.proofs.Common.{◌≡◌, ℕ, ◌+◌, ◌≤◌, Bool, true, false, cond, List, [], ◌∷◌, length, filter, refl, ap, ◌∙◌, inl, inr, arith}
+use Rattle.std.proofs.Common.{◌≡◌, ℕ, ◌≤◌, true, List, [], ◌∷◌, length, refl, ap, arith}
 use Rattle.std.proofs.lemmas.List.{length-set}
-use Rattle.std.proofs.lemmas.Bool.{cases_Bool, not-true}
-use Rattle.event.specs.declared.times.Time.{Time}
+use Rattle.std.proofs.lemmas.Bool.{not-true}
 use Rattle.event.specs.Sinks.{Held}
-use Rattle.tables.specs.declared.elements.Kept.{Kept}
-use Rattle.tables.specs.declared.elements.UsedId.{UsedId}
-use Rattle.calls.specs.Draws.{known, marked}
 use Rattle.tables.specs.Elements.{active_at, earlier, kept_as, used_as}
 use Rattle.tables.specs.Picks.{arrived_in}
 use Rattle.tables.specs.Picks.{kept_in, used_in}
 use Rattle.calls.specs.Once.{NoneKeptActive, none_active}
-use Rattle.calls.specs.Plays.{moved}
 use Rattle.calls.specs.Runs.{Call, New, World, after, runs, world}
 use Rattle.calls.specs.State.{State, fresh}
-use Rattle.tables.specs.Tables.{fails, none, placed, sorted, without}
-use Rattle.calls.proofs.Counting.{count, count_apart, marks_all, marks_one, none_known, none_of}
+use Rattle.tables.specs.Tables.{fails, none, sorted}
+use Rattle.calls.proofs.Counting.{count, none_of}
 use Rattle.tables.proofs.InOrder.{none_placed}
 use Rattle.calls.proofs.Outcomes.{Way, way}
 use Rattle.calls.proofs.Outcomes.Way.{stays, tells_at_once, tells_now_lem, keeps_it, moves, follows_it, leaves_it_lem, evicts_some}
 use Rattle.calls.proofs.Singles.{Single, one_kept, one_used, single_fewer, single_kept_fewer, single_moved}
 use Rattle.tables.proofs.Sorting.{earlier_further, earlier_opposite, kept_placed_sorted}
-use Rattle.tables.proofs.Filtered.{count_placed, sorted_filtered}
+use Rattle.tables.proofs.Filtered.{sorted_filtered}
 
 -- kept events in order, ids single, nothing kept active at the playhead
 pub record Steady (w : World) : Type 0 where

@@ -1,11 +1,11 @@
 -- How a leave, a seek and an evict go.
-use Rattle.std.proofs.Common.{◌≡◌, ℕ, ◌<◌, ◌≤◌, true, false, map, length, filter, sym, refl, ap, ◌∙◌, arith}
+use Rattle.std.proofs.Common.{◌≡◌, ℕ, ◌<◌, ◌≤◌, false, map, length, filter, sym, ap, ◌∙◌, arith}
 use Rattle.std.proofs.lemmas.Bool.{le-ltb, lt-leb, lt-ltb}
 use Rattle.event.specs.declared.times.Time.{Time}
 use Rattle.event.specs.Numbers.{Answer}
 use Rattle.event.specs.Numbers.Answer.{did, refused}
 use Rattle.event.specs.Sinks.{Held}
-use Rattle.event.specs.Times.{latest, time}
+use Rattle.event.specs.Times.{latest}
 use Rattle.event.proofs.Clock.{time_ms}
 use Rattle.calls.specs.Draws.{with_kept}
 use Rattle.tables.specs.Picks.{arrived_in}

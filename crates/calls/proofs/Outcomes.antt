@@ -1,6 +1,6 @@
 -- What each call can do to a player and its sink.
 use Rattle.std.proofs.Common.{◌≡◌, ℕ, ◌<◌, ◌≤◌, Bool, true, false, cond, not, ◌&&◌, ltb, leb, List, [], ◌∷◌, map, length, drop, Some, None, filter, Option, refl, ap, ◌∙◌, inl, inr, arith}
-use Rattle.std.specs.List.{AllByRecursion as All}
+use Rattle.std.specs.List.{AllByRecursion}
 use Rattle.std.proofs.ByRecursion.{All-drop, kept_by_passes}
 use Rattle.std.proofs.lemmas.Bool.{cases_Bool, cond_both, eq-eqb, ltb-false}
 use Rattle.std.proofs.lemmas.Bool.Decides.{nat_tests}
@@ -105,7 +105,7 @@ module _ (w : World) (c : Call) where
 due_in : (a b : ℕ) (k : Kept) → starts_in a b k ≡ true → (a < starts k) × (starts k ≤ b)
 due_in a b k e = grind (arith, nat_tests)
 
-reach_between : (a t : ℕ) (ks : List Kept) → All (λ k. starts_in a t k ≡ true) ks → a ≤ t → (a ≤ reach_before ks t) × (reach_before ks t ≤ t)
+reach_between : (a t : ℕ) (ks : List Kept) → AllByRecursion (λ k. starts_in a t k ≡ true) ks → a ≤ t → (a ≤ reach_before ks t) × (reach_before ks t ≤ t)
 reach_between a t [] h l = (l, omega arith)
 reach_between a t (k ∷ ks) h l = let d = due_in a t k h.0 in (omega arith, omega arith)
 

@@ -1,10 +1,10 @@
 -- How a play goes.
-use Rattle.std.proofs.Common.{◌≡◌, ℕ, ◌<◌, ◌≤◌, map, length, sym, refl, ap, ◌∙◌, arith}
+use Rattle.std.proofs.Common.{◌≡◌, ℕ, ◌<◌, ◌≤◌, map, length, sym, ap, ◌∙◌}
 use Rattle.std.proofs.lemmas.Bool.{le-ltb, lt-ltb}
 use Rattle.event.specs.declared.times.Time.{Time}
 use Rattle.event.specs.Numbers.Answer.{did, refused}
 use Rattle.event.specs.Sinks.{Held}
-use Rattle.event.specs.Times.{latest, time}
+use Rattle.event.specs.Times.{latest}
 use Rattle.event.proofs.Clock.{time_ms}
 use Rattle.calls.specs.Plays.{Play, at_start, due, moved, plays, plays_to, reach, told_to}
 use Rattle.tables.specs.Picks.{starts_in}

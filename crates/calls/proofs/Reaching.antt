@@ -1,14 +1,13 @@
 -- How far a play comes.
-use Rattle.std.proofs.Common.{◌≡◌, ℕ, zero, suc, ◌+◌, ◌-◌, ◌<◌, ◌≤◌, Bool, true, false, cond, not, ◌&&◌, leb, List, [], ◌∷◌, length, get_or, take, drop, filter, sym, refl, ap, ◌∙◌, inl, inr, add-zero, arith}
+use Rattle.std.proofs.Common.{◌≡◌, ℕ, zero, suc, ◌+◌, ◌-◌, ◌<◌, ◌≤◌, Bool, true, false, not, ◌&&◌, List, [], ◌∷◌, length, get_or, take, drop, filter, sym, refl, ap, ◌∙◌, inl, inr, add-zero, arith}
 use Rattle.std.proofs.ByRecursion.{All-get_or, kept_by_passes}
 use Rattle.std.proofs.lemmas.List.{drop_all, drop_more, get_or-drop, get_or-take, length-drop, length-take, length-take-le}
-use Rattle.std.proofs.lemmas.Bool.{and_parts, cases_Bool, cases_lt, le-leb, leb-false, lt-leb, not-true}
+use Rattle.std.proofs.lemmas.Bool.{and_parts, cases_Bool, le-leb, leb-false, lt-leb, not-true}
 use Rattle.std.proofs.lemmas.Bool.Decides.{nat_tests}
 use Rattle.tables.specs.declared.elements.Kept.{Kept}
 use Rattle.tables.specs.Elements.{earlier, starts}
-use Rattle.calls.specs.Plays.{due, reach, reach_before}
+use Rattle.calls.specs.Plays.{reach_before}
 use Rattle.tables.specs.Picks.{starts_by, starts_in}
-use Rattle.calls.specs.State.{State}
 use Rattle.tables.specs.Tables.{leading, none, prefix, sorted}
 use Rattle.tables.proofs.Prefixes.{none_weaker, prefix_fails, prefix_passes, prefix_within}
 

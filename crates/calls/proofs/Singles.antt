@@ -1,5 +1,5 @@
 -- Each id of a stream at most once, over used ids and kept events together.
-use Rattle.std.proofs.Common.{◌≡◌, ℕ, ◌+◌, ◌≤◌, Bool, true, false, cond, filter, refl, ap, ◌∙◌, inl, inr, arith}
+use Rattle.std.proofs.Common.{◌≡◌, ℕ, ◌+◌, ◌≤◌, Bool, false, cond, filter, ap, ◌∙◌, inl, inr, arith}
 use Rattle.std.proofs.lemmas.Bool.{cases_Bool}
 use Rattle.event.specs.declared.times.Time.{Time}
 use Rattle.tables.specs.declared.elements.Kept.{Kept}

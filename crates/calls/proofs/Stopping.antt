@@ -1,6 +1,6 @@
 -- A run whose plays are made in stops comes to the same.
 use Rattle.std.proofs.Common.{◌≡◌, ℕ, ◌≤◌, List, [], ◌∷◌, ◌++◌, map, sym, refl, ap, ◌∙◌, subst}
-use Rattle.std.specs.List.{AllByRecursion as All}
+use Rattle.std.specs.List.{AllByRecursion}
 use Rattle.event.specs.declared.dispatches.Dispatch.{Dispatch}
 use Rattle.event.specs.Sinks.{Held}
 use Rattle.event.specs.Times.{latest}
@@ -14,7 +14,7 @@ use Rattle.calls.proofs.Joining.{play_twice}
 use Rattle.calls.proofs.Lasting.{Steady, steady_after, steady_new}
 
 -- stops before a play
-in_stops : (t : ℕ) (ts : List ℕ) (ds : List Call) (w : World) → Steady w → t ≤ latest → All (UpTo t) ts → runs (map bare_call (map play ts ++ (play t ∷ ds))) w ≡ runs (map bare_call ds) (after (play t) w)
+in_stops : (t : ℕ) (ts : List ℕ) (ds : List Call) (w : World) → Steady w → t ≤ latest → AllByRecursion (UpTo t) ts → runs (map bare_call (map play ts ++ (play t ∷ ds))) w ≡ runs (map bare_call ds) (after (play t) w)
 in_stops t [] ds w h l up = refl
 in_stops t (u ∷ ts) ds w h l up =
     in_stops t ts ds (after (play u) w) (steady_after (play u) w h) l up.1

@@ -1,22 +1,21 @@
 -- Drawing from a feed.
---   known k w          the event's id is used or kept in its stream; an event without an id is never known
+--   known k w            the event's id is used or kept in its stream; an event without an id is never known
 --   no_id_place k w      the event has an id, and used ids and ids of kept events have taken all places
---   marked k u         the used ids with the event's id among them
---   with_used w u       the player with other used ids
---   with_kept w ks      the player with other kept events
---   Outcome            the answer, the player and the sink after a record
---   telling d a w h    one more dispatch, and the player is then a; refused with 24 where the sink has no free place
---   keeps k w h        keeping an event: 22 where every place is taken, 23 where its id has none
---   tells_now k w h     dispatching an active event at the playhead: 23, 24
---   on_start k w h      lines 3 to 6: over, repeat, active, else kept
+--   marked k u           the used ids with the event's id among them
+--   with_used w u        the player with other used ids
+--   with_kept w ks       the player with other kept events
+--   Outcome              the answer, the player and the sink after a record
+--   telling d a w h      one more dispatch, and the player is then a; refused with 24 where the sink has no free place
+--   keeps k w h          keeping an event: 22 where every place is taken, 23 where its id has none
+--   tells_now k w h      dispatching an active event at the playhead: 23, 24
+--   on_start k w h       lines 3 to 6: over, repeat, active, else kept
 --   in_mode_of m k w h   by the stream's mode: passed, on receive, or on start
---   receives e w h     the first fitting line for a record
---   stepped a c        what is to come after the answer: a record that was not refused is gone
---   draws c w h        what a draw answers, and leaves of the player, the sink and what is to come
-use Rattle.std.specs.Prelude.{ℕ, ◌+◌, Bool, true, false, cond, not, ◌&&◌, ◌||◌, List, [], length, Some, None, Option, nat_le, nat_lt}
+--   receives e w h       the first fitting line for a record
+--   stepped a c          what is to come after the answer: a record that was not refused is gone
+--   draws c w h          what a draw answers, and leaves of the player, the sink and what is to come
+use Rattle.std.specs.Prelude.{ℕ, ◌+◌, Bool, false, cond, ◌&&◌, ◌||◌, List, length, Some, None, Option, nat_le, nat_lt}
 use Rattle.event.specs.declared.dispatches.Dispatch.{Dispatch}
 use Rattle.event.specs.declared.events.Event.{Event}
-use Rattle.event.specs.declared.feeds.Ending.{Ending}
 use Rattle.event.specs.declared.feeds.Ending.TheVariants.{Clean, Broken}
 use Rattle.event.specs.declared.feeds.Look.{Look}
 use Rattle.event.specs.declared.feeds.Look.TheVariants.{Record, Ended}

@@ -1,5 +1,5 @@
 -- Forgetting what arrived in a range.
---   evicts a b w      what an evict answers and leaves: 25 where a is above b
+--   evicts a b w   what an evict answers and leaves: 25 where a is above b
 use Rattle.std.specs.Prelude.{ℕ, cond, length, filter, nat_lt}
 use Rattle.event.specs.Numbers.{Answer}
 use Rattle.event.specs.Numbers.Answer.{did, refused}

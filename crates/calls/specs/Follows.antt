@@ -1,9 +1,9 @@
 -- Following a stream.
---   is_off m          a stream in this mode is not followed
---   mode_of w s       the mode of a stream; off outside the catalogue
---   in_mode s m w     the player with the stream's mode set
---   follows s m w    what a follow answers and leaves
-use Rattle.std.specs.Prelude.{ℕ, Bool, true, false, cond, not, set, nat_le, nat_lt, slice_index_or, slice_set}
+--   is_off m        a stream in this mode is not followed
+--   mode_of w s     the mode of a stream; off outside the catalogue
+--   in_mode s m w   the player with the stream's mode set
+--   follows s m w   what a follow answers and leaves
+use Rattle.std.specs.Prelude.{ℕ, Bool, true, false, cond, not, nat_le, nat_lt, slice_index_or, slice_set}
 use Rattle.event.specs.declared.modes.Mode.{Mode}
 use Rattle.event.specs.declared.modes.Mode.TheVariants.{Off, OnReceive, OnStart}
 use Rattle.event.specs.Numbers.{Answer}

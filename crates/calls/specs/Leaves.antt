@@ -1,6 +1,6 @@
 -- Leaving a stream.
---   left s w         the player with the stream off, its kept events and used ids removed
---   leaves s w       what a leave answers and leaves: 16 outside the catalogue, 19 where the stream is not followed
+--   left s w     the player with the stream off, its kept events and used ids removed
+--   leaves s w   what a leave answers and leaves: 16 outside the catalogue, 19 where the stream is not followed
 use Rattle.std.specs.Prelude.{ℕ, cond, length, filter, nat_le, slice_set}
 use Rattle.event.specs.declared.modes.Mode.TheVariants.{Off}
 use Rattle.event.specs.Numbers.{Answer}

@@ -1,15 +1,15 @@
 -- What is told of a stream that is followed on start.
 --   tells_of s d          a dispatch of the stream
 --   tells_id s i d        a dispatch of the stream with the id
---   WhileActive d        the event is active at the position of its dispatch
+--   WhileActive d         the event is active at the position of its dispatch
 --   leaves_it s c w       a leave of the stream that is not refused
 --   stays_followed s cs w no call of the run is such a leave
---   since w v            what was told from one world of a run to a later one
---   Once s ds            each id of the stream is told at most once, and its events only while they are active
---   OnceWhileFollowed w  in every run from w: from a follow of a stream on start that is not refused, for as long as it stays followed, what is told is once and while active
---   NoneKeptActive w     after every run from w no kept event is active at the playhead
+--   since w v             what was told from one world of a run to a later one
+--   Once s ds             each id of the stream is told at most once, and its events only while they are active
+--   OnceWhileFollowed w   in every run from w: from a follow of a stream on start that is not refused, for as long as it stays followed, what is told is once and while active
+--   NoneKeptActive w      after every run from w no kept event is active at the playhead
 use Rattle.std.specs.Prelude.{◌≡◌, ℕ, ◌≤◌, Bool, true, false, not, ◌&&◌, List, [], ◌∷◌, length, drop, filter, ◌==◌}
-use Rattle.std.specs.List.{AllByRecursion as All}
+use Rattle.std.specs.List.{AllByRecursion}
 use Rattle.event.specs.declared.dispatches.Dispatch.{Dispatch}
 use Rattle.event.specs.declared.modes.Mode.TheVariants.{OnStart}
 use Rattle.event.specs.Spans.{active}
@@ -45,7 +45,7 @@ since w v = drop (length w.sink.told) v.sink.told
 
 pub record Once (s : ℕ) (ds : List Dispatch) : Type 0 where
   pub once : (i : ℕ) → length (filter (tells_id s i) ds) ≤ 1
-  pub active : All WhileActive (filter (tells_of s) ds)
+  pub active : AllByRecursion WhileActive (filter (tells_of s) ds)
 
 abbrev pub OnceWhileFollowed : World → Type 0
 OnceWhileFollowed w =

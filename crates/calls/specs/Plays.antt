@@ -1,14 +1,14 @@
 -- Playing on from the playhead.
---   due w t             the kept events that start after the playhead and up to t, in order
---   reach w free t      how far a play to t comes: all the way where what is due fits the free places,
---                       else one millisecond before the start of the first due event for which no place is left
+--   due w t           the kept events that start after the playhead and up to t, in order
+--   reach w free t    how far a play to t comes: all the way where what is due fits the free places,
+--                     else one millisecond before the start of the first due event for which no place is left
 --   Furthest w free t u the furthest time up to t by which everything that starts fits the free places
---   told_to h ds         the sink with more dispatches told
---   told_by f k          the dispatch of an event at the position that f gives
---   at_start k           the dispatch of an event at its start
---   marked_all ks u      the used ids with those of the events among them
---   moved t p w         the player at t, without the kept events that pass p, their ids used
---   plays t w h         what a play answers and leaves: 20 past the latest time, 21 behind the playhead
+--   told_to h ds      the sink with more dispatches told
+--   told_by f k       the dispatch of an event at the position that f gives
+--   at_start k        the dispatch of an event at its start
+--   marked_all ks u   the used ids with those of the events among them
+--   moved t p w       the player at t, without the kept events that pass p, their ids used
+--   plays t w h       what a play answers and leaves: 20 past the latest time, 21 behind the playhead
 use Rattle.std.specs.Prelude.{ℕ, ◌-◌, ◌<◌, ◌≤◌, Bool, cond, List, [], ◌∷◌, ◌++◌, map, length, drop, filter, nat_lt}
 use Rattle.event.specs.declared.dispatches.Dispatch.{Dispatch}
 use Rattle.event.specs.declared.modes.Trigger.TheVariants.{Start}

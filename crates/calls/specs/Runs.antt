@@ -1,13 +1,13 @@
 -- Lists of calls on one player, with one sink.
---   CallOn X       one of the six calls with its arguments; a draw looks at an X
---   Call           a call whose draw looks at what a feed has still to come
---   World          a player and its sink
---   Answers c      what a call answers: the line that fits a record, how far a play came, a number, or only that it was done
---   does c w       the answer of a call, and the world that it leaves
---   after c w      the world that a call leaves
---   runs cs w      the world after a list of calls, one by one
---   done a         a call that was not refused
---   New n k m f w  a fresh player of n streams, at most 32, with k places for events and m for ids, and a sink that was told nothing and has f free places
+--   CallOn X        one of the six calls with its arguments; a draw looks at an X
+--   Call            a call whose draw looks at what a feed has still to come
+--   World           a player and its sink
+--   Answers c       what a call answers: the line that fits a record, how far a play came, a number, or only that it was done
+--   does c w        the answer of a call, and the world that it leaves
+--   after c w       the world that a call leaves
+--   runs cs w       the world after a list of calls, one by one
+--   done a          a call that was not refused
+--   New n k m f w   a fresh player of n streams, at most 32, with k places for events and m for ids, and a sink that was told nothing and has f free places
 use Rattle.std.specs.Prelude.{◌≡◌, ℕ, ◌≤◌, Bool, true, false, List, [], ◌∷◌}
 use Rattle.event.specs.declared.modes.Mode.{Mode}
 use Rattle.event.specs.Feeds.{Coming}

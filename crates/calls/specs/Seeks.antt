@@ -1,5 +1,5 @@
 -- Jumping to a time.
---   seeks t w h       what a seek answers and leaves: 20 past the latest time, 24 where the active events outnumber the free places
+--   seeks t w h   what a seek answers and leaves: 20 past the latest time, 24 where the active events outnumber the free places
 use Rattle.std.specs.Prelude.{ℕ, cond, map, length, filter, nat_lt}
 use Rattle.event.specs.Numbers.{Answer}
 use Rattle.event.specs.Numbers.Answer.{did, refused}

@@ -1,14 +1,14 @@
 -- Runs whose plays are made in stops.
---   bare_message m           a message with its place set aside
---   bare_event e             an event with its message's place set aside; so bare_kept a kept event, and bare_dispatch a dispatch
---   Same a b                two looks find the same: records that are equal with message places set aside, both a clean end, or faults of one number
---   Alike c d               one call in place of another: the call itself, or a draw that finds the same
---   UpTo t u                a stop at u on the way to t is not past t
---   Stopped cs ds           ds is cs with each draw in place of one that finds the same, and with any plays, none past t, before a play to t that is not past the latest time
---   Agree w v               equal playheads, modes and used ids; equal kept events and lists told, message places set aside
---   StopsChangeNothing w    every run from w and the run in stops from a world that began as w agree
+--   bare_message m         a message with its place set aside
+--   bare_event e           an event with its message's place set aside; so bare_kept a kept event, and bare_dispatch a dispatch
+--   Same a b               two looks find the same: records that are equal with message places set aside, both a clean end, or faults of one number
+--   Alike c d              one call in place of another: the call itself, or a draw that finds the same
+--   UpTo t u               a stop at u on the way to t is not past t
+--   Stopped cs ds          ds is cs with each draw in place of one that finds the same, and with any plays, none past t, before a play to t that is not past the latest time
+--   Agree w v              equal playheads, modes and used ids; equal kept events and lists told, message places set aside
+--   StopsChangeNothing w   every run from w and the run in stops from a world that began as w agree
 use Rattle.std.specs.Prelude.{◌≡◌, ℕ, ◌≤◌, List, [], ◌∷◌, ◌++◌, map}
-use Rattle.std.specs.List.{AllByRecursion as All}
+use Rattle.std.specs.List.{AllByRecursion}
 use Rattle.event.specs.declared.dispatches.Dispatch.{Dispatch}
 use Rattle.event.specs.declared.events.Event.{Event}
 use Rattle.event.specs.declared.events.Message.{Message}
@@ -50,7 +50,7 @@ UpTo t u = u ≤ t
 pub data Stopped : List Call → List Call → Type 0 where
   none : Stopped [] []
   alike : {c d : Call} {cs ds : List Call} → Alike c d → Stopped cs ds → Stopped (c ∷ cs) (d ∷ ds)
-  stops : {t : ℕ} (ts : List ℕ) {cs ds : List Call} → t ≤ latest → All (UpTo t) ts → Stopped cs ds → Stopped (play t ∷ cs) (map play ts ++ (play t ∷ ds))
+  stops : {t : ℕ} (ts : List ℕ) {cs ds : List Call} → t ≤ latest → AllByRecursion (UpTo t) ts → Stopped cs ds → Stopped (play t ∷ cs) (map play ts ++ (play t ∷ ds))
 
 pub record Agree (w v : World) : Type 0 where
   pub playhead : w.player.playhead ≡ v.player.playhead

@@ -1,10 +1,10 @@
 -- The walk over the records of a catalogue.
---   admitted ts s o       a turn over a record of the stream s, which is listed behind ts unless o says why not
---   record_turn ts o       a turn over a record, where o is its stream; refused where it has none
+--   admitted ts s o           a turn over a record of the stream s, which is listed behind ts unless o says why not
+--   record_turn ts o          a turn over a record, where o is its stream; refused where it has none
 --   catalogue_turn ts at bs   one turn over the bytes bs: a clean end where none is left
---   all_listed w           the streams of a walk, or the number of what stopped it
---   catalogue at bs       the streams that the bytes bs list, which stand at a place, or the number of the first record's refusal
---   read r                what the reading of a catalogue answers
+--   all_listed w              the streams of a walk, or the number of what stopped it
+--   catalogue at bs           the streams that the bytes bs list, which stand at a place, or the number of the first record's refusal
+--   read r                    what the reading of a catalogue answers
 use Rattle.std.specs.Prelude.{ℕ, ◌+◌, cond, List, [], ◌∷◌, ◌++◌, length, Some, None, Ok, Err, Option, Result, ◌==◌}
 use Rattle.event.specs.Numbers.{Answer, refusal}
 use Rattle.event.specs.Numbers.Answer.{did}

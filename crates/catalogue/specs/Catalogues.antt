@@ -1,17 +1,17 @@
 -- The catalogue of streams.
---   named m e        the stream that an entry of a catalogue over the buffer m names
---   listed c         the streams of a catalogue, by their numbers
---   sought a b       the stream with the scheme a and the value b
+--   named m e         the stream that an entry of a catalogue over the buffer m names
+--   listed c          the streams of a catalogue, by their numbers
+--   sought a b        the stream with the scheme a and the value b
 --   number_from n s   the number of s in a list whose first stream has the number n
---   number s         its number in a list
---   Sound ts         at most 32 streams, each of them proper, and each found under its own number
---   flaw s ts        why a stream cannot be listed, if so: it is not proper, it is listed already, or it is the 33rd
---   behind at s      the place behind a record at a place, and the record's stream
---   ends m e         the place behind an entry, and its stream
---   settled o p ts   the answer and the list once that is judged: at a refusal the list stays
---   added at o ts    the answer and the list after the record at a place, where o is its stream; 1 where it has none
+--   number s          its number in a list
+--   Sound ts          at most 32 streams, each of them proper, and each found under its own number
+--   flaw s ts         why a stream cannot be listed, if so: it is not proper, it is listed already, or it is the 33rd
+--   behind at s       the place behind a record at a place, and the record's stream
+--   ends m e          the place behind an entry, and its stream
+--   settled o p ts    the answer and the list once that is judged: at a refusal the list stays
+--   added at o ts     the answer and the list after the record at a place, where o is its stream; 1 where it has none
 use Rattle.std.specs.Prelude.{◌≡◌, ℕ, ◌+◌, ◌<◌, ◌≤◌, true, cond, not, List, [], ◌∷◌, ◌++◌, map, length, take, is_some, Some, None, Option, nat_le, slice_index_or}
-use Rattle.std.specs.List.{between, AllByRecursion as All}
+use Rattle.std.specs.List.{between, AllByRecursion}
 use Rattle.event.specs.Numbers.{Answer, refusal}
 use Rattle.event.specs.Numbers.Answer.{did, refused}
 use Rattle.event.specs.declared.refusals.Refusal.{Refusal}
@@ -38,7 +38,7 @@ number s ts = number_from 0 s ts
 
 pub record Sound (ts : List Stream) : Type 0 where
   pub few : length ts ≤ 32
-  pub good : All (λ s. proper s ≡ true) ts
+  pub good : AllByRecursion (λ s. proper s ≡ true) ts
   pub own : (k : ℕ) (d : Stream) → k < length ts → number (slice_index_or ts k d) ts ≡ Some k
 
 abbrev pub flaw : Stream → List Stream → Option Refusal

@@ -1,13 +1,13 @@
 -- Streams, each named by a pair of scheme and value.
---   Stream            a scheme and a value
---   stream p          the stream that a pair names
---   front a b bs      the strings of a and b bytes at the front of bs
---   fronted a b bs    those, where bs is long enough
---   marked a b bs     the bytes begin with the two-byte mark a b
---   listing bs        the stream of an `SV` record at the front of bs, unless the mark is another or the record is cut
---   same s t          both strings are the same, byte for byte
---   blank bs          a 0 byte is among the bytes
---   proper s          the scheme is not empty, and neither string holds a 0 byte
+--   Stream           a scheme and a value
+--   stream p         the stream that a pair names
+--   front a b bs     the strings of a and b bytes at the front of bs
+--   fronted a b bs   those, where bs is long enough
+--   marked a b bs    the bytes begin with the two-byte mark a b
+--   listing bs       the stream of an `SV` record at the front of bs, unless the mark is another or the record is cut
+--   same s t         both strings are the same, byte for byte
+--   blank bs         a 0 byte is among the bytes
+--   proper s         the scheme is not empty, and neither string holds a 0 byte
 use Rattle.std.specs.Prelude.{ℕ, ◌+◌, Bool, false, cond, not, ◌&&◌, ◌||◌, List, [], ◌∷◌, length, take, drop, Some, None, Option, ◌==◌, nat_le, slice_index}
 use Rattle.std.specs.Str.{bytes_eq}
 use Rattle.catalogue.specs.declared.pairs.Pair.{Pair}

@@ -1,12 +1,12 @@
 -- What a command does to a player and its sink.
---   After                    the answer, the player and the sink
---   goes_on o f               what follows a record that was not refused
---   draws_all es x w h        drawing record after record up to the ending or a refusal
---   draws_from c w h          the same of all that is to come
---   done a                   the answer without its value
---   draws_sheet p e ts w h    drawing the sheet in a stretch, in a period that starts at p
+--   After                        the answer, the player and the sink
+--   goes_on o f                  what follows a record that was not refused
+--   draws_all es x w h           drawing record after record up to the ending or a refusal
+--   draws_from c w h             the same of all that is to come
+--   done a                       the answer without its value
+--   draws_sheet p e ts w h       drawing the sheet in a stretch, in a period that starts at p
 --   draws_segment p e t ts w h   drawing the segment in a stretch, with its timing, likewise
---   performs c m ts w h      what a command does, over the media buffer m with the streams ts listed
+--   performs c m ts w h          what a command does, over the media buffer m with the streams ts listed
 use Rattle.std.specs.Prelude.{ℕ, List, [], ◌∷◌}
 use Rattle.std.specs.List.{between}
 use Rattle.event.specs.Feeds.{Coming}

@@ -1,13 +1,13 @@
 -- Eight examples that are worked out by hand.
 --   start_given a v n s   the start that an emsg box of a version gives, whose time is n ticks of s, in a segment with the timing a
---   kept a d             a kept event that starts at a, with a duration or none
---   deck ks              a player at 0 that keeps these events
---   room n               a sink that was told nothing and has n free places
+--   kept a d              a kept event that starts at a, with a duration or none
+--   deck ks               a player at 0 that keeps these events
+--   room n                a sink that was told nothing and has n free places
 --   ev_at n               an event of a sheet at the time n, with nothing flagged
 --   sheet_at o            an event stream in milliseconds with the offset o
---   a_gk, a_gl             the texts aGk= and aGl=
+--   a_gk, a_gl            the texts aGk= and aGl=
 --   start_in r            the start in milliseconds, or the number of what is wrong
---   Worked               what the definitions give for each of the examples
+--   Worked                what the definitions give for each of the examples
 use Rattle.std.specs.Prelude.{◌≡◌, ℕ, true, false, List, [], ◌∷◌, Some, None, Ok, Err, Option, Result}
 use Rattle.std.specs.Option.{option_map}
 use Rattle.std.specs.Result.{result_ok}

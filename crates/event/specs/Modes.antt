@@ -1,5 +1,5 @@
 -- The numbers of modes.
---   mode_of n    1 is on receive, 2 is on start, and every other number is off
+--   mode_of n   1 is on receive, 2 is on start, and every other number is off
 use Rattle.std.specs.Prelude.{ℕ, cond, ◌==◌}
 use Rattle.event.specs.declared.modes.Mode.{Mode}
 use Rattle.event.specs.declared.modes.Mode.TheVariants.{Off, OnReceive, OnStart}

@@ -1,9 +1,9 @@
 -- What a call answers, by the numbers of the rules.
 --   defect_number d   the number of what is wrong with bytes or times
---   Answer           what a call did, or the number it refused with, or that number with the fault that it carries
---   refusal e        the number, and the fault where there is one, of each refusal
---   answer r         a call's result as an answer
---   number a         the number of a refusal; 0 where the call was done
+--   Answer            what a call did, or the number it refused with, or that number with the fault that it carries
+--   refusal e         the number, and the fault where there is one, of each refusal
+--   answer r          a call's result as an answer
+--   number a          the number of a refusal; 0 where the call was done
 use Rattle.std.specs.Prelude.{ℕ, Ok, Err, Result}
 use Rattle.event.specs.declared.faults.Defect.{Defect}
 use Rattle.event.specs.declared.faults.Defect.TheVariants.{Timescale, BoxSize, BoxFields, BelowZero, PastLatest, CutRecord, NoEventStream, Flags, NotBase64}

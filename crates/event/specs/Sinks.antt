@@ -1,6 +1,6 @@
 -- What a sink holds.
---   Held       the dispatches it was told, the oldest first, and its free places
---   tells d h  telling d: at the list's end where a place is free, else refused with 27 and nothing changes
+--   Held        the dispatches it was told, the oldest first, and its free places
+--   tells d h   telling d: at the list's end where a place is free, else refused with 27 and nothing changes
 use Rattle.std.specs.Prelude.{ℕ, ◌-◌, cond, List, [], ◌∷◌, ◌++◌, nat_lt}
 use Rattle.event.specs.declared.dispatches.Dispatch.{Dispatch}
 use Rattle.event.specs.Numbers.{Answer}

@@ -1,8 +1,8 @@
 -- When an event is active.
---   end_behind  whether the end, start plus duration, is behind t; an unknown end is beyond every time
---   active     started by t, and the end not behind t
---   ended      the end is behind t
-use Rattle.std.specs.Prelude.{ℕ, ◌+◌, Bool, true, false, not, ◌&&◌, Some, None, Option, nat_le, nat_lt}
+--   end_behind   whether the end, start plus duration, is behind t; an unknown end is beyond every time
+--   active       started by t, and the end not behind t
+--   ended        the end is behind t
+use Rattle.std.specs.Prelude.{ℕ, ◌+◌, Bool, false, not, ◌&&◌, Some, None, Option, nat_le, nat_lt}
 use Rattle.event.specs.declared.times.Time.{Time}
 use Rattle.event.specs.declared.spans.Span.{Span}
 

@@ -1,6 +1,6 @@
 -- Times in milliseconds.
---   latest      the latest time
---   time n      the time of n milliseconds, or the latest time where n is past it
+--   latest   the latest time
+--   time n   the time of n milliseconds, or the latest time where n is past it
 use Rattle.std.specs.Prelude.{ℕ, ◌≤◌, min}
 use Rattle.std.proofs.Common.{arith}
 use Rattle.event.specs.declared.times.Time.{Time}

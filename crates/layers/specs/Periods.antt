@@ -1,12 +1,12 @@
 -- What is to come in a period.
---   fits p e       neither the start nor the arrival, each p milliseconds later, passes the latest time
---   moved p e      the event with its start and its arrival p milliseconds later
+--   fits p e        neither the start nor the arrival, each p milliseconds later, passes the latest time
+--   moved p e       the event with its start and its arrival p milliseconds later
 --   past_latest e   the fault of a period at an event that does not fit: 10, at its message's place
---   fitting p es   the events up to the first that does not fit
---   stop p es g    the fault of the first event that does not fit, or the ending g where all fit
+--   fitting p es    the events up to the first that does not fit
+--   stop p es g     the fault of the first event that does not fit, or the ending g where all fit
 --   in_period p c   what is to come, each record moved, up to the first that does not fit
 --   without p es c the rest of c where the first of es fits, else c
---   removes p c    what a step of the period leaves of the feed below: where the first record does not fit, all of it
+--   removes p c     what a step of the period leaves of the feed below: where the first record does not fit, all of it
 use Rattle.std.specs.Prelude.{ℕ, ◌+◌, Bool, cond, ◌&&◌, List, [], ◌∷◌, map, nat_le}
 use Rattle.event.specs.Feeds.{Coming, rest}
 use Rattle.event.specs.Times.{latest, time}

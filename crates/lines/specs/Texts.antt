@@ -1,9 +1,10 @@
 -- The text of a line.
---   or_dash o   a number, or a dash where there is none
---   letter t   R on receive, S on start
---   words ws   texts with a space between each two
---   text l     the first line; position, letter, stream, id, start, duration and message length of a dispatch;
---              the record and the number of a refusal, and the number of the fault that it carries; the last line
+--   or_dash o          a number, or a dash where there is none
+--   letter t           R on receive, S on start
+--   words ws           texts with a space between each two
+--   text l             the first line; position, letter, stream, id, start, duration and message length of a dispatch;
+--                      the record and the number of a refusal, and the number of the fault that it carries; the last line
+--   text_of_first ls   the text of the first of these lines; nothing where there is none
 use Rattle.std.specs.Prelude.{ℕ, List, [], ◌∷◌, ◌++◌, Some, None, codes, decimal, Option}
 use Rattle.std.specs.Option.{option_map}
 use Rattle.event.specs.declared.dispatches.Dispatch.{Dispatch}
@@ -43,3 +44,7 @@ text First = codes "cues 1"
 text (Cue d) = cue d
 text (Refused n k f) = refused n k f
 text (Last p n) = words (codes "playhead" ∷ decimal p ∷ codes "kept" ∷ decimal n ∷ [])
+
+abbrev pub text_of_first : List Line → List ℕ
+text_of_first [] = []
+text_of_first (l ∷ ls) = text l

@@ -1,11 +1,11 @@
 -- The places that a walk comes to.
---   Stand S          a state, a place, and the bytes that are left from there on
---   stand s at bs    the three together
---   found turn p     what the walk finds where it stands
---   beyond p s k     where it stands behind a record of k bytes, in the state s
---   Reached turn p q   a walk that starts at p comes to q: q is p itself, or stands behind a record of a place that it comes to
+--   Stand S              a state, a place, and the bytes that are left from there on
+--   stand s at bs        the three together
+--   found turn p         what the walk finds where it stands
+--   beyond p s k         where it stands behind a record of k bytes, in the state s
+--   Reached turn p q     a walk that starts at p comes to q: q is p itself, or stands behind a record of a place that it comes to
 --   NoneAtFault turn p   nothing is wrong with any record that a walk from p on comes to
---   Exactly P Q      P holds exactly if Q does
+--   Exactly P Q          P holds exactly if Q does
 use Rattle.std.specs.Prelude.{◌≡◌, ℕ, ◌+◌, List, drop, ◌≢◌}
 use Rattle.media.specs.declared.walks.Turn.{Turn}
 use Rattle.media.specs.declared.walks.Turn.TheVariants.{Broken, Gives, Passes}

@@ -1,8 +1,8 @@
 -- What comes from a reader, which keeps its next look ready.
---   fault at d    a reader's fault at a place
---   ending o      the ending of a walk
---   comes w       what the records of a walk give, as a feed
---   ahead l c     what comes where l is ready and c is behind it
+--   fault at d   a reader's fault at a place
+--   ending o     the ending of a walk
+--   comes w      what the records of a walk give, as a feed
+--   ahead l c    what comes where l is ready and c is behind it
 use Rattle.std.specs.Prelude.{ℕ, [], ◌∷◌, Some, None, Option}
 use Rattle.event.specs.Feeds.{Coming}
 use Rattle.event.specs.declared.events.Event.{Event}

@@ -1,10 +1,10 @@
 -- A stretch of the media buffer.
---   Extent           the bytes of the buffer, and the places where a stretch of it begins and ends
---   extent s         what a stretch says
---   part s           the bytes of a stretch
---   left s at        the bytes of a stretch from a place on
---   stretch m a b    the stretch of m from a to b, or 5 where m is too long or the stretch is not inside it
---   made r           what the making of a stretch answers
+--   Extent          the bytes of the buffer, and the places where a stretch of it begins and ends
+--   extent s        what a stretch says
+--   part s          the bytes of a stretch
+--   left s at       the bytes of a stretch from a place on
+--   stretch m a b   the stretch of m from a to b, or 5 where m is too long or the stretch is not inside it
+--   made r          what the making of a stretch answers
 use Rattle.std.specs.Prelude.{ℕ, cond, ◌&&◌, List, length, Ok, Err, Result, nat_le}
 use Rattle.std.specs.List.{between}
 use Rattle.event.specs.Numbers.{Answer, refusal}

@@ -1,7 +1,7 @@
 -- Timescales.
 --   is_timescale n   n is the number of a timescale: 1 to 10,000,000
---   timescale n     the timescale of n ticks to a second, or the nearest one where n is none
---   millis n s      n ticks in whole milliseconds, where a second has s
+--   timescale n      the timescale of n ticks to a second, or the nearest one where n is none
+--   millis n s       n ticks in whole milliseconds, where a second has s
 use Rattle.std.specs.Prelude.{ℕ, ◌*◌, ◌/◌, ◌≤◌, min, max, Bool, ◌&&◌, nat_le}
 use Rattle.std.proofs.Common.{arith}
 use Rattle.media.specs.declared.timescales.Timescale.{Timescale}

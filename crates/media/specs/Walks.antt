@@ -1,10 +1,10 @@
 -- Walks over records, one after the other.
---   Walked X D          the items that the records give, and what stopped the walk, if it did not come to a clean end
---   onward t f          what a turn gives, where f tells of what is left behind its record
+--   Walked X D           the items that the records give, and what stopped the walk, if it did not come to a clean end
+--   onward t f           what a turn gives, where f tells of what is left behind its record
 --   given_by turn n      a walk of at most n turns
---   given turn s at bs  the walk over the bytes bs, which stand at a place, from the state s on
---   Goes n t            a record of a turn has at least one byte and at most n
---   Forward turn        each turn goes forward, within the bytes that are left
+--   given turn s at bs   the walk over the bytes bs, which stand at a place, from the state s on
+--   Goes n t             a record of a turn has at least one byte and at most n
+--   Forward turn         each turn goes forward, within the bytes that are left
 use Rattle.std.specs.Prelude.{ℕ, zero, suc, ◌+◌, ◌<◌, ◌≤◌, List, [], ◌∷◌, length, drop, Some, None, Option}
 use Rattle.media.specs.declared.walks.Turn.{Turn}
 use Rattle.media.specs.declared.walks.Turn.TheVariants.{Clean, Broken, Gives, Passes}

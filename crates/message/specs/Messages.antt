@@ -1,7 +1,7 @@
 -- The bytes of a message.
---   part at n bs          n bytes from a place on, or 28 where they are not all there
+--   part at n bs           n bytes from a place on, or 28 where they are not all there
 --   message_of m bs ds n   of a base64 message the n bytes at the front of its decoded buffer ds, else its part of the media buffer bs
---   handed r              the bytes that a call hands out
+--   handed r               the bytes that a call hands out
 use Rattle.std.specs.Prelude.{ℕ, ◌+◌, cond, List, length, take, drop, Ok, Err, Result, nat_le}
 use Rattle.std.specs.Borrow.{Bor}
 use Rattle.event.specs.Numbers.{Answer, refusal}

@@ -1,10 +1,9 @@
 -- Lists written to the front of lent memory.
-use Rattle.std.proofs.Common.{◌≡◌, ℕ, zero, suc, ◌+◌, ◌-◌, ◌<◌, ◌≤◌, Bool, true, false, cond, not, List, [], ◌∷◌, ◌++◌, length, get_or, take, drop, set, filter, sym, refl, ap, ◌∙◌, add-one, arith}
+use Rattle.std.proofs.Common.{◌≡◌, ℕ, suc, ◌+◌, ◌-◌, ◌<◌, ◌≤◌, Bool, true, false, cond, not, List, [], ◌∷◌, ◌++◌, length, get_or, take, drop, set, sym, refl, ap, ◌∙◌, arith}
 use borrow.Rule.Slice.PartMut.{put_mid}
 use Rattle.std.specs.List.{between}
-use Rattle.std.proofs.lemmas.List.{length-set, get_or-append_right, get_or-drop, set_at, drop_more, append_assoc, length_push, length-append, length-drop, length-take-le, set_split, drop-append-le, take-append-le, take_at, drop_at, append-nil, drop-drop, take-append-drop}
+use Rattle.std.proofs.lemmas.List.{length-set, get_or-append_right, get_or-drop, set_at, drop_more, append_assoc, length_push, length-append, length-drop, length-take-le, set_split, drop-append-le, take-append-le, take_at, drop_at, append-nil, take-append-drop}
 use Rattle.std.proofs.lemmas.List.Elements.{filter_more}
-use Rattle.std.proofs.lemmas.Bool.{not_from_true, not_from_false}
 use Rattle.event.specs.Fronts.{front}
 use Rattle.tables.specs.Tables.{fails, placed, prefix, without}
 use Rattle.tables.proofs.InOrder.{placed_at, length_placed}

@@ -1,9 +1,9 @@
 -- Lists of calls on a player, a sink of any make, and feeds of any make.
---   meant coming c                a call by what its feed has still to come
+--   meant coming c                 a call by what its feed has still to come
 --   seen_as held p s               the world of a player and a sink
---   Chain coming held cs p s q t  the calls, each made on what the one before it left, lead from the player p and the sink s to q and t: at each step answer, player and sink are what the call's contract says
---   StopsChangeNoValue            for two players and two sinks, with feeds and sinks of different make: a run and the run in stops agree
---   ValuesHold                    of every chain from a fresh player and an empty sink: a stream that stays followed on start is told each id at most once and its events while active, no kept event is active at the playhead, and each record drawn is counted once
+--   Chain coming held cs p s q t   the calls, each made on what the one before it left, lead from the player p and the sink s to q and t: at each step answer, player and sink are what the call's contract says
+--   StopsChangeNoValue             for two players and two sinks, with feeds and sinks of different make: a run and the run in stops agree
+--   ValuesHold                     of every chain from a fresh player and an empty sink: a stream that stays followed on start is told each id at most once and its events while active, no kept event is active at the playhead, and each record drawn is counted once
 use Rattle.std.specs.Prelude.{◌≡◌, ℕ, ◌+◌, true, List, [], ◌∷◌, map, length, drop}
 use Rattle.event.specs.declared.modes.Mode.TheVariants.{OnStart}
 use Rattle.event.specs.Feeds.{Coming}

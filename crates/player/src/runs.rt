@@ -5,9 +5,9 @@ use event::{Feed, Sink};
 
 // What holds of every list of calls on two players, the one with feeds F and a sink S, the other with feeds G and a sink T.
 pub fn runs_hold<F: Feed, G: Feed, S: Sink, T: Sink>() -> u8
-    ensures stops_change_nothing { StopsChangeNoValue F.Feed.coming G.Feed.coming S.Sink.held T.Sink.held }
-    ensures first_holds { ValuesHold F.Feed.coming S.Sink.held }
-    ensures second_holds { ValuesHold G.Feed.coming T.Sink.held }
+    ensures stops_change_nothing { StopsChangeNoValue F.coming G.coming S.held T.held }
+    ensures first_holds { ValuesHold F.coming S.held }
+    ensures second_holds { ValuesHold G.coming T.held }
 {
     0
 }

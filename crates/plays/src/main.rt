@@ -1,11 +1,11 @@
 // The calls on a player, tried: this program shows two players at the same calls, and the tests hold lists of calls to the answers and dispatches that the rules give.
 #![tactic(auto)]
 
-mod calls;
 mod feeds;
 #[cfg(test)]
 mod scripts;
 mod shows;
+mod steps;
 #[cfg(test)]
 mod tests;
 #[cfg(test)]

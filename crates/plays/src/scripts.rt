@@ -1,5 +1,5 @@
 // A list of calls, made on a fresh player one after the other.
-use crate::calls::{Call, Said, perform, unused};
+use crate::steps::{Call, Said, perform, unused};
 use event::{Dispatch, StreamCount};
 use player::{Kept, Player, Tables, UsedId};
 use sink::RecordList;

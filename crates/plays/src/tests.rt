@@ -1,6 +1,6 @@
 // What the calls on a player answer, and what the sink is told.
-use crate::calls::{Call, Said, arrived, event, in_stream, told};
 use crate::scripts::{AMPLE, Places, script};
+use crate::steps::{Call, Said, arrived, event, in_stream, told};
 use event::{Mode, Time, Trigger};
 use player::{Drawn, Kept, Tables, UsedId};
 use std::process::Abort;

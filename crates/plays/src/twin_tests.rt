@@ -1,5 +1,5 @@
 // What the two players show, beside what the rules give.
-use crate::calls::{event, in_stream, told, unused};
+use crate::steps::{event, in_stream, told, unused};
 use crate::twins::{Outcome, SEGMENT_FIRST, SHEET_FIRST, on_list, on_log, set_aside};
 use event::{Dispatch, Event, Trigger};
 use std::process::Abort;

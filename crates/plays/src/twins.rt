@@ -1,5 +1,5 @@
 // The same calls on two players: one tells a record list and plays whole, the other tells a byte log and plays in stops.
-use crate::calls::{Call, Said, arrived, event, in_stream, perform, unused};
+use crate::steps::{Call, Said, arrived, event, in_stream, perform, unused};
 use catalogue::Catalogue;
 use event::{Dispatch, Feed, Mode, Refusal, Sink, StreamCount};
 use layers::Period;

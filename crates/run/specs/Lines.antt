@@ -1,17 +1,17 @@
 -- The lines that a whole run reports.
---   cues ds                       a line for each dispatch
---   reports ds n a rest           the cues and then the refusal of the record n, before the lines behind it
---   closing w                     the last line: how far the player came, and how many events it keeps
---   since h g                     what a sink was told from h to g
---   performed cs x n m ts w h     the lines of the commands cs, the first of them behind n records, and of the refusal x that stops the reading, if there is one;
---                                 over the media buffer m with the streams ts listed, by the player w and the sink h
---   behind v n m ts w h           the same of all that is to come in a run sheet
---   played cs m ts w h            what the player and the sink hold once the commands cs are performed
---   opened m o a w h              the lines of the run sheet m behind its catalogue records o, which gave the streams a or were refused
---   sheet_lines m w h              the lines of the run sheet m, with a player and a sink; refused with 5 where it is too long
---   listed_in a                    how many streams are listed; none at a refusal
---   streams_in m                   how many streams the run sheet m lists; none where it is refused
---   lines m k i f                 the lines of a whole run of m, with places for k events, i ids and f dispatches
+--   cues ds                     a line for each dispatch
+--   reports ds n a rest         the cues and then the refusal of the record n, before the lines behind it
+--   closing w                   the last line: how far the player came, and how many events it keeps
+--   since h g                   what a sink was told from h to g
+--   performed cs x n m ts w h   the lines of the commands cs, the first of them behind n records, and of the refusal x that stops the reading, if there is one;
+--                               over the media buffer m with the streams ts listed, by the player w and the sink h
+--   behind v n m ts w h         the same of all that is to come in a run sheet
+--   played cs m ts w h          what the player and the sink hold once the commands cs are performed
+--   opened m o a w h            the lines of the run sheet m behind its catalogue records o, which gave the streams a or were refused
+--   sheet_lines m w h           the lines of the run sheet m, with a player and a sink; refused with 5 where it is too long
+--   listed_in a                 how many streams are listed; none at a refusal
+--   streams_in m                how many streams the run sheet m lists; none where it is refused
+--   lines m k i f               the lines of a whole run of m, with places for k events, i ids and f dispatches
 use Rattle.std.specs.Prelude.{ℕ, cond, List, [], ◌∷◌, ◌++◌, length, drop, Some, None, Option, nat_le}
 use Rattle.event.specs.Numbers.{Answer, refusal}
 use Rattle.event.specs.Numbers.Answer.{did, refused, refused_with}

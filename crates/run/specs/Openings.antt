@@ -1,10 +1,10 @@
 -- What was read of a run sheet before its commands.
---   onward s w h       the lines that are behind what was performed, where s is what is still read; the last line alone where nothing is
---   outcome s w h      what the player and the sink hold once all that s reads is performed
---   listed_by s         how many streams are listed; none where nothing is read
---   coming o w h       the lines that an opening leads to, with a player and a sink
---   Opens m o          the opening leads to the lines of the run sheet m, whatever the player and the sink, and lists its streams
---   Whole o w h ls     from the opening of a run sheet m, a fresh player with as many streams and a sink that was told nothing, ls are the lines of a whole run of m
+--   onward s w h     the lines that are behind what was performed, where s is what is still read; the last line alone where nothing is
+--   outcome s w h    what the player and the sink hold once all that s reads is performed
+--   listed_by s      how many streams are listed; none where nothing is read
+--   coming o w h     the lines that an opening leads to, with a player and a sink
+--   Opens m o        the opening leads to the lines of the run sheet m, whatever the player and the sink, and lists its streams
+--   Whole o w h ls   from the opening of a run sheet m, a fresh player with as many streams and a sink that was told nothing, ls are the lines of a whole run of m
 use Rattle.std.specs.Prelude.{◌≡◌, ℕ, List, [], length, Some, None, Option}
 use Rattle.event.specs.Numbers.{answer}
 use Rattle.event.specs.Sinks.{Held}

@@ -1,16 +1,16 @@
 -- A run, between two of its lines.
---   playing r    what its player holds
---   holding r    what its record list holds
---   pending r    the lines behind the first: what was performed and is not reported, and all that is still to come
---   left_at x ls  the lines left at a stage, where ls are those behind the first
---   left r       the lines that it will still report
---   to_come r     what its player and its record list hold once all that it reads is performed
+--   playing r         what its player holds
+--   holding r         what its record list holds
+--   pending r         the lines behind the first: what was performed and is not reported, and all that is still to come
+--   left_at x ls      the lines left at a stage, where ls are those behind the first
+--   left r            the lines that it will still report
+--   to_come r         what its player and its record list hold once all that it reads is performed
 --   ending_at x p q   the same at a stage: what they hold now where the last line was reported
---   ending r     what its player and its record list hold behind the last line
---   NextTold ds n d  d stands in ds behind n others
---   idle r       nothing is left to report of what was performed, and there is more to read
---   unread s     how many commands there are to read, and the end behind them; 0 where nothing is read
---   to_read r     the same of a run
+--   ending r          what its player and its record list hold behind the last line
+--   NextTold ds n d   d stands in ds behind n others
+--   idle r            nothing is left to report of what was performed, and there is more to read
+--   unread s          how many commands there are to read, and the end behind them; 0 where nothing is read
+--   to_read r         the same of a run
 use Rattle.std.specs.Prelude.{◌≡◌, ℕ, suc, ◌+◌, ◌^◌, ◌<◌, Bool, true, false, ◌&&◌, List, [], ◌∷◌, length, drop, is_some, is_ok, Some, None, Option, nat_le}
 use Rattle.event.specs.Numbers.{answer}
 use Rattle.event.specs.Sinks.{Held}

@@ -1,17 +1,17 @@
 -- The commands of a run sheet, as the bytes of its records have them.
---   Read               a command and the length of its record, or none where the record is cut
---   Goes r n           a record has at least one byte, and at most n
---   follow bs          FO: stream in byte 2, mode in byte 3
---   leave bs           LV: stream in byte 2
---   play bs            PL: the time in bytes 2 to 9
---   seek bs            SK: likewise
---   evict bs           EX: two times, in bytes 2 to 9 and 10 to 17
---   draw_sheet at bs    MP: the period start in bytes 2 to 9, the length in bytes 10 and 11, the sheet from byte 12 on; the record stands at a place
---   segment_times bs    E, O, S, P and Q, one after the other
---   segment_length bs   the length behind them, where as many bytes follow it
---   draw_segment at bs  SG: the period start in bytes 2 to 9, E 10 to 17, O 18 to 25, S 26 to 29, P 30 to 37, Q 38 to 41, the length in bytes 42 and 43, the segment from byte 44 on
---   marked a b bs      the first two bytes are the mark a b
---   command at bs      the command by its mark; none where the mark is unknown
+--   Read                 a command and the length of its record, or none where the record is cut
+--   Goes r n             a record has at least one byte, and at most n
+--   follow bs            FO: stream in byte 2, mode in byte 3
+--   leave bs             LV: stream in byte 2
+--   play bs              PL: the time in bytes 2 to 9
+--   seek bs              SK: likewise
+--   evict bs             EX: two times, in bytes 2 to 9 and 10 to 17
+--   draw_sheet at bs     MP: the period start in bytes 2 to 9, the length in bytes 10 and 11, the sheet from byte 12 on; the record stands at a place
+--   segment_times bs     E, O, S, P and Q, one after the other
+--   segment_length bs    the length behind them, where as many bytes follow it
+--   draw_segment at bs   SG: the period start in bytes 2 to 9, E 10 to 17, O 18 to 25, S 26 to 29, P 30 to 37, Q 38 to 41, the length in bytes 42 and 43, the segment from byte 44 on
+--   marked a b bs        the first two bytes are the mark a b
+--   command at bs        the command by its mark; none where the mark is unknown
 use Rattle.std.specs.Prelude.{ℕ, ◌+◌, ◌<◌, ◌≤◌, Bool, cond, ◌&&◌, List, length, drop, Some, None, Option, ◌==◌, nat_le, slice_index}
 use Rattle.event.specs.Modes.{mode_of}
 use Rattle.media.specs.BigEndian.{num16, num32, num64}

@@ -1,10 +1,10 @@
 -- The catalogue records at the front of a run sheet.
 --   opening_turn ts at bs   one turn over them, with the streams ts listed: any other mark ends them
---   opening at bs          the streams that the records at the front of bs list, and the refusal that stops the reading, if one does
---   lengths ss             the length of the records that list these streams
+--   opening at bs           the streams that the records at the front of bs list, and the refusal that stops the reading, if one does
+--   lengths ss              the length of the records that list these streams
 --   refused_too o           1 where a refusal stopped the reading, else 0
 --   records_in w            how many records were read, the refused one among them
---   more n k               n records and k more, as far as the count goes
+--   more n k                n records and k more, as far as the count goes
 --   opening_of s            the opening that stands next in a run sheet
 use Rattle.std.specs.Prelude.{ℕ, zero, suc, ◌+◌, min, cond, List, [], ◌∷◌, length, Some, None, Option}
 use Rattle.event.specs.declared.refusals.Refusal.{Refusal}

@@ -1,19 +1,19 @@
 -- Reading a run sheet record by record.
---   WholeMedia m r    a run sheet at its first record over the whole of m; refused with 5 where m is too long
---   Commands          the commands of a run sheet, and the refusal that stops the reading, if one does
---   turn_of r          one turn over the record that was read; refused with 30 where there is none
---   command_turn at bs one turn over the bytes bs, which stand at a place: a clean end where none is left
---   commands at bs    the commands that the bytes bs hold, which stand at a place
---   commands_in s      the commands that are still to come in a run sheet
+--   WholeMedia m r            a run sheet at its first record over the whole of m; refused with 5 where m is too long
+--   Commands                  the commands of a run sheet, and the refusal that stops the reading, if one does
+--   turn_of r                 one turn over the record that was read; refused with 30 where there is none
+--   command_turn at bs        one turn over the bytes bs, which stand at a place: a clean end where none is left
+--   commands at bs            the commands that the bytes bs hold, which stand at a place
+--   commands_in s             the commands that are still to come in a run sheet
 --   at_end x, first_of cs x   what stands next where no command is left, and before the commands cs
---   head_of w          what stands next: a command, or the refusal that stops the reading; nothing at the end
---   rest_of w          all but the first command
---   command_of r       the command that was read; where there is none, 30
---   length_of r        the length of the record that was read; 0 where there is none
---   next_of at bs      what stands next, at a place with the bytes bs left; nothing where none is left
---   counted bs n       the records counted, with the next one among them, if there is one
---   Onward r a b to    after a command the place has moved on from a to b, within the media buffer
---   counted_with o n   the records counted, with the next one among them, if there is one
+--   head_of w                 what stands next: a command, or the refusal that stops the reading; nothing at the end
+--   rest_of w                 all but the first command
+--   command_of r              the command that was read; where there is none, 30
+--   length_of r               the length of the record that was read; 0 where there is none
+--   next_of at bs             what stands next, at a place with the bytes bs left; nothing where none is left
+--   counted bs n              the records counted, with the next one among them, if there is one
+--   Onward r a b to           after a command the place has moved on from a to b, within the media buffer
+--   counted_with o n          the records counted, with the next one among them, if there is one
 use Rattle.std.specs.Prelude.{◌≡◌, ℕ, ◌+◌, ◌<◌, ◌≤◌, min, true, false, cond, List, [], ◌∷◌, length, drop, Some, None, Ok, Err, Option, Result, ◌==◌, nat_le}
 use Rattle.event.specs.Numbers.{refusal}
 use Rattle.event.specs.Numbers.Answer.{refused}

@@ -1,5 +1,5 @@
 -- One turn of a walk over a segment, and what is left behind it.
-use Rattle.std.proofs.Common.{◌≡◌, ℕ, ◌+◌, ◌-◌, ◌<◌, ◌≤◌, [], length, drop, sym, ap, ◌∙◌, subst, arith}
+use Rattle.std.proofs.Common.{◌≡◌, ℕ, ◌+◌, ◌<◌, ◌≤◌, [], length, drop, sym, ap, ◌∙◌, subst, arith}
 use Rattle.event.specs.declared.events.Event.{Event}
 use Rattle.event.specs.declared.faults.Fault.{Fault}
 use Rattle.event.specs.declared.feeds.Ending.TheVariants as ending

@@ -1,18 +1,18 @@
 -- The boxes of a segment.
---   kind bs        the type of the box at the front of bs, where it is there
---   large_size bs   its size behind its type, where that is there
---   size_by n bs    how it says its size, where its first number is n
---   size_of bs      how that box says its size: a u32 at its front; 1 where a u64 behind its type says it, 0 where it reaches to the end
---   head z         the length of its head
---   span z n       its size, where n bytes are left
---   bad z n        its head is cut, or its size is below its head or past the n bytes that are left
---   body z bs      what stands behind its head
---   version bs     the version at the front of a body, where the flags behind it are there too
---   emsg           the type `emsg`
---   judged_by v     what a reader does with an emsg box of such a version
---   typed k v      the same of a box of such a type
+--   kind bs          the type of the box at the front of bs, where it is there
+--   large_size bs    its size behind its type, where that is there
+--   size_by n bs     how it says its size, where its first number is n
+--   size_of bs       how that box says its size: a u32 at its front; 1 where a u64 behind its type says it, 0 where it reaches to the end
+--   head z           the length of its head
+--   span z n         its size, where n bytes are left
+--   bad z n          its head is cut, or its size is below its head or past the n bytes that are left
+--   body z bs        what stands behind its head
+--   version bs       the version at the front of a body, where the flags behind it are there too
+--   emsg             the type `emsg`
+--   judged_by v      what a reader does with an emsg box of such a version
+--   typed k v        the same of a box of such a type
 --   judged z n k v   what a reader does with a box: 7 where its size is bad; an emsg box without version and flags is 8;
---                  one of version 0 or 1 gives a record; every other box is stepped over
+--                    one of version 0 or 1 gives a record; every other box is stepped over
 use Rattle.std.specs.Prelude.{ℕ, Bool, true, false, cond, ◌||◌, List, length, Some, None, Option, ◌==◌, nat_le, nat_lt, slice_index}
 use Rattle.std.specs.List.{between}
 use Rattle.event.specs.declared.faults.Defect.TheVariants.{BoxSize, BoxFields}

@@ -1,19 +1,19 @@
 -- The fields of emsg boxes, as their bytes have them.
---   zero_from n bs   where the first 0 byte of bs stands, whose own first byte stands at n
---   Shut            a string, and what stands behind the 0 byte that closes it
---   shut_at o bs     the string in front of a 0 byte, where it was found
---   shut bs         the string at the front of bs; none where no 0 byte closes it
---   closed c        what a string that was read says
---   Texts           a scheme and a value, and what stands behind them
---   valued, schemed  the value behind a scheme, and both, where each is closed
---   texts bs        the two strings at the front of bs; none where one is not closed
---   names n         what two strings that were read say
---   Emsg            stream, timescale, time, duration and id, and the length of the message
+--   zero_from n bs            where the first 0 byte of bs stands, whose own first byte stands at n
+--   Shut                      a string, and what stands behind the 0 byte that closes it
+--   shut_at o bs              the string in front of a 0 byte, where it was found
+--   shut bs                   the string at the front of bs; none where no 0 byte closes it
+--   closed c                  what a string that was read says
+--   Texts                     a scheme and a value, and what stands behind them
+--   valued, schemed           the value behind a scheme, and both, where each is closed
+--   texts bs                  the two strings at the front of bs; none where one is not closed
+--   names n                   what two strings that were read say
+--   Emsg                      stream, timescale, time, duration and id, and the length of the message
 --   zero_fields, one_fields   the numbers of a version, once the strings are read
---   emsg_zero bs     version 0: scheme, value, timescale u32, time u32, duration u32, id u32, message; none where these do not fit
---   emsg_one bs      version 1: timescale u32, time u64, duration u32, id u32, scheme, value, message; none likewise
---   emsg_of v bs     the fields of a version
---   fields r        what a box that was read says
+--   emsg_zero bs              version 0: scheme, value, timescale u32, time u32, duration u32, id u32, message; none where these do not fit
+--   emsg_one bs               version 1: timescale u32, time u64, duration u32, id u32, scheme, value, message; none likewise
+--   emsg_of v bs              the fields of a version
+--   fields r                  what a box that was read says
 use Rattle.std.specs.Prelude.{ℕ, ◌+◌, ◌-◌, cond, List, [], ◌∷◌, length, take, drop, Some, None, Option, ◌==◌, nat_le}
 use Rattle.media.specs.BigEndian.{num32, num64}
 use Rattle.catalogue.specs.Pairs.{Stream, stream}

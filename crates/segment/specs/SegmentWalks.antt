@@ -1,14 +1,14 @@
 -- The walk over a segment.
---   SegmentTurn         a turn over a box; a walk over a segment has no state
---   box_gives at k r     a box of k bytes at a place that gives an event, or what is wrong with it
---   emsg_turn ts t v at k o   an emsg box of k bytes at a place, whose fields are o: it gives its event, or 8 where the fields do not fit, or what is wrong with the event;
---                       the message is what is left at the box's end
---   box_turn ts t at z bs u   a box at a place, by what a reader does with it
---   use_of bs            what a reader does with the box at the front of bs
+--   SegmentTurn                 a turn over a box; a walk over a segment has no state
+--   box_gives at k r            a box of k bytes at a place that gives an event, or what is wrong with it
+--   emsg_turn ts t v at k o     an emsg box of k bytes at a place, whose fields are o: it gives its event, or 8 where the fields do not fit, or what is wrong with the event;
+--                               the message is what is left at the box's end
+--   box_turn ts t at z bs u     a box at a place, by what a reader does with it
+--   use_of bs                   what a reader does with the box at the front of bs
 --   segment_turn ts t s at bs   one turn over the bytes bs, which stand at a place: a clean end where none is left
---   segment ts t at bs  what comes from a segment of the bytes bs, which stand at a place, with the streams ts listed
---   behind s            what is left of a segment that is being walked over
---   coming r            what comes from a segment reader
+--   segment ts t at bs          what comes from a segment of the bytes bs, which stand at a place, with the streams ts listed
+--   behind s                    what is left of a segment that is being walked over
+--   coming r                    what comes from a segment reader
 use Rattle.std.specs.Prelude.{ℕ, ◌+◌, ◌-◌, false, cond, List, length, drop, Some, None, Ok, Err, Option, Result, ◌==◌}
 use Rattle.event.specs.Feeds.{Coming}
 use Rattle.event.specs.declared.events.Event.{Event}

@@ -1,13 +1,13 @@
 -- The records of a sheet, as their bytes have them.
---   Es           timescale, offset, the stream that scheme and value name, and the length of the record
---   Ev           flags, presentation time, duration, id, message length and message
---   whole n bs   the n bytes at the front of bs, where there are so many
---   es_record bs  the `ES` record at the front of bs: mark `ES`, timescale u32, offset u64, scheme length u8, value length u8, scheme, value;
---                none where the mark is another or the record is cut
---   ev_record bs  the `EV` record at the front of bs: mark `EV`, flags u8, presentation time u64, duration u32, id u32, message length u16, message;
---                none likewise
+--   Es                     timescale, offset, the stream that scheme and value name, and the length of the record
+--   Ev                     flags, presentation time, duration, id, message length and message
+--   whole n bs             the n bytes at the front of bs, where there are so many
+--   es_record bs           the `ES` record at the front of bs: mark `ES`, timescale u32, offset u64, scheme length u8, value length u8, scheme, value;
+--                          none where the mark is another or the record is cut
+--   ev_record bs           the `EV` record at the front of bs: mark `EV`, flags u8, presentation time u64, duration u32, id u32, message length u16, message;
+--                          none likewise
 --   es_fields, ev_fields   these behind the mark, where the strings or the message are not cut
---   es r, ev r   what a record that was read says
+--   es r, ev r             what a record that was read says
 use Rattle.std.specs.Prelude.{ℕ, ◌+◌, cond, ◌&&◌, List, length, take, drop, Some, None, Option, nat_le, slice_index}
 use Rattle.media.specs.BigEndian.{num16, num32, num64}
 use Rattle.catalogue.specs.Pairs.{Stream, fronted, marked, stream}

@@ -1,10 +1,10 @@
 -- The walk over a sheet.
---   es_turn ts at e      an `ES` record at a place: it is stepped over and governs from there on, or 6 where its timescale is none
---   ev_turn s at m v     an `EV` record at a place, with its message at m: it gives its event, or 12 where no `ES` governs it, or what is wrong with the event
+--   es_turn ts at e         an `ES` record at a place: it is stepped over and governs from there on, or 6 where its timescale is none
+--   ev_turn s at m v        an `EV` record at a place, with its message at m: it gives its event, or 12 where no `ES` governs it, or what is wrong with the event
 --   sheet_turn ts s at bs   one turn over the bytes bs, which stand at a place: a clean end where none is left, 11 where no record is there
---   sheet ts at bs      what comes from a sheet of the bytes bs, which stand at a place, with the streams ts listed
---   behind s            what is left of a sheet that is being walked over
---   coming r            what comes from a sheet reader
+--   sheet ts at bs          what comes from a sheet of the bytes bs, which stand at a place, with the streams ts listed
+--   behind s                what is left of a sheet that is being walked over
+--   coming r                what comes from a sheet reader
 use Rattle.std.specs.Prelude.{ℕ, ◌+◌, cond, List, length, Some, None, Ok, Err, Option, Result, ◌==◌}
 use Rattle.event.specs.Feeds.{Coming}
 use Rattle.event.specs.declared.events.Event.{Event}

@@ -1,11 +1,11 @@
 -- What the records of a sheet give.
---   opened ts e      the event stream that an `ES` record opens; its stream is numbered in the list ts
---   flagged k v      the flag k of an `EV` record is set: 1 duration known, 2 id present, 4 base64
+--   opened ts e       the event stream that an `ES` record opens; its stream is numbered in the list ts
+--   flagged k v       the flag k of an `EV` record is set: 1 duration known, 2 id present, 4 base64
 --   flags_fit v       no other flag is set, and a field that is not flagged is 0
 --   text_fits v       a message that is flagged as base64 is base64
 --   id_of v           the id, where it is present
---   start g v        the start in milliseconds, under the event stream g
---   lasts g v        the duration likewise
+--   start g v         the start in milliseconds, under the event stream g
+--   lasts g v         the duration likewise
 --   span_of g v       start and duration: 9 the time is below the offset, 10 the start or a known duration is past the latest time
 --   event_of g at v   the event, whose message stands at a place: 13 the flags do not fit; then as for its span; 14 a flagged message is not base64
 use Rattle.std.specs.Prelude.{ℕ, ◌-◌, Bool, cond, not, ◌&&◌, ◌||◌, List, Some, None, Ok, Err, Option, Result, ◌==◌, bit_and, nat_lt}

@@ -1,5 +1,5 @@
 -- What a byte log holds.
---   used_of l      the bytes it has written
+--   used_of l       the bytes it has written
 --   held_in_log l   the dispatches that its used bytes read as, and a free place for each 40 unused bytes
 use Rattle.std.specs.Prelude.{ℕ, ◌-◌, ◌*◌, ◌/◌, List, length}
 use Rattle.event.specs.Sinks.{Held}

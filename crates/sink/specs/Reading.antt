@@ -1,11 +1,11 @@
 -- Reading a byte log: one record after the other.
---   pieces bs        how many records bytes hold, with a last one that may be cut
---   followed r rs    the dispatch r and then those of rs, or the first defect
---   read_up_to n bs    the dispatches of the first n records
+--   pieces bs         how many records bytes hold, with a last one that may be cut
+--   followed r rs     the dispatch r and then those of rs, or the first defect
+--   read_up_to n bs   the dispatches of the first n records
 --   read_log bs       the dispatches of all records, or what is wrong with the first that cannot be read
---   dispatches r     the dispatches that were read; none where a record cannot be read
---   placed r ds      what was read, put into a lent list
---   verdict r        that all records can be read, or the first defect
+--   dispatches r      the dispatches that were read; none where a record cannot be read
+--   placed r ds       what was read, put into a lent list
+--   verdict r         that all records can be read, or the first defect
 --   read_into bs ds   reading bytes into a lent list: the number read, which then stand at its front; a refusal leaves it
 use Rattle.std.specs.Prelude.{ℕ, zero, suc, ◌+◌, ◌/◌, cond, List, [], ◌∷◌, length, take, drop, Ok, Err, Result, nat_le}
 use Rattle.event.specs.Fronts.{front}

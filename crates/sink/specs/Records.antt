@@ -1,18 +1,18 @@
 -- One record of a byte log: 40 bytes.
---   laid r         its bytes: the mark DL, flags, stream, position, start, duration, id, place, length
---   marked bs      40 bytes are there, and the first two are the mark
---   record_at bs    the record at the front of bytes
---   has k n        whether the flag k is among the flags n
---   on_start t      whether a dispatch was told on start
---   flags_of d      the flags of a dispatch: 1 duration known, 2 id present, 4 base64, 8 on start
+--   laid r           its bytes: the mark DL, flags, stream, position, start, duration, id, place, length
+--   marked bs        40 bytes are there, and the first two are the mark
+--   record_at bs     the record at the front of bytes
+--   has k n          whether the flag k is among the flags n
+--   on_start t       whether a dispatch was told on start
+--   flags_of d       the flags of a dispatch: 1 duration known, 2 id present, 4 base64, 8 on start
 --   milliseconds o a duration, or 0 where it is not known
---   or_zero o       an id, or 0 where there is none
---   record_of d     a dispatch as a record: fields that it has not are 0
---   flagged r      no other flag, and each unflagged field is 0
---   in_time r       no time past the latest
---   dispatch_in r   the dispatch of a record
---   checked r      the dispatch, or what is wrong with the record: 13, then 10
---   read_record bs  the dispatch at the front of bytes, or what is wrong there: 11, then 13, then 10
+--   or_zero o        an id, or 0 where there is none
+--   record_of d      a dispatch as a record: fields that it has not are 0
+--   flagged r        no other flag, and each unflagged field is 0
+--   in_time r        no time past the latest
+--   dispatch_in r    the dispatch of a record
+--   checked r        the dispatch, or what is wrong with the record: 13, then 10
+--   read_record bs   the dispatch at the front of bytes, or what is wrong there: 11, then 13, then 10
 use Rattle.std.specs.Prelude.{ℕ, Bool, true, false, cond, not, ◌&&◌, ◌||◌, List, ◌∷◌, ◌++◌, length, is_some, Some, None, Ok, Err, Option, Result, ◌==◌, bit_and, bit_or, nat_le, nat_lt, slice_index}
 use Rattle.event.specs.Times.{latest, time}
 use Rattle.event.specs.declared.dispatches.Dispatch.{Dispatch}

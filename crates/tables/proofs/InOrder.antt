@@ -1,6 +1,6 @@
 -- What an order gives of a list that is sorted by it.
-use Rattle.std.proofs.Common.{◌≡◌, ℕ, zero, suc, ◌+◌, ◌-◌, ◌<◌, ◌≤◌, Bool, true, false, cond, not, ◌&&◌, List, [], ◌∷◌, ◌++◌, length, get_or, take, drop, sym, refl, ap, ◌∙◌, inl, inr, arith}
-use Rattle.std.proofs.lemmas.Bool.{and_parts, and_from, not-true, not_from_false, not_from_true, both_ways, cases_Bool, cases_lt, cond-true, cond-false}
+use Rattle.std.proofs.Common.{◌≡◌, ℕ, zero, suc, ◌+◌, ◌-◌, ◌<◌, ◌≤◌, Bool, true, false, not, List, [], ◌∷◌, ◌++◌, length, get_or, take, drop, sym, refl, ap, ◌∙◌, inl, inr, arith}
+use Rattle.std.proofs.lemmas.Bool.{and_parts, and_from, not-true, not_from_false, not_from_true, both_ways, cases_Bool, cases_lt}
 use Rattle.std.proofs.lemmas.List.{get_or-take}
 use Rattle.tables.specs.Tables.{none, any, sorted, tied, placed, leading, prefix}
 use Rattle.tables.proofs.Prefixes.{none_get_or, none_weaker, any_at, any_none, prefix_below, prefix_past, prefix_within}

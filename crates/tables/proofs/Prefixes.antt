@@ -1,9 +1,8 @@
 -- Where a test stops passing.
-use Rattle.std.proofs.Common.{◌≡◌, ℕ, zero, suc, ◌+◌, ◌<◌, ◌≤◌, Bool, true, false, cond, not, ◌&&◌, List, [], ◌∷◌, ◌++◌, length, get_or, take, drop, sym, refl, ap, ◌∙◌, inl, inr, suc-le-suc, zero-le, arith}
-use Rattle.std.proofs.lemmas.Bool.{cond_both, cond-true, cond-false, and_parts, not-true, both_ways, cases_Bool}
-use Rattle.std.proofs.lemmas.Bool.Decides.{nat_tests}
+use Rattle.std.proofs.Common.{◌≡◌, ℕ, zero, suc, ◌+◌, ◌<◌, ◌≤◌, Bool, true, false, not, List, [], ◌∷◌, ◌++◌, length, get_or, take, sym, refl, ap, ◌∙◌, inl, inr, arith}
+use Rattle.std.proofs.lemmas.Bool.{cond_both, and_parts, not-true, both_ways, cases_Bool}
 use Rattle.std.proofs.lemmas.List.{get_or-take, length-take-le, length-take, take_more}
-use Rattle.tables.specs.Tables.{none, any, sorted, tied, placed, leading, prefix}
+use Rattle.tables.specs.Tables.{none, any, leading, prefix}
 
 pub none_get_or : {X : Type 0} (p : X → Bool) (xs : List X) (i : ℕ) (d : X) → none p xs ≡ true → i < length xs → p (get_or xs i d) ≡ false
 none_get_or p [] i d h l = absurd (omega arith)

@@ -1,17 +1,17 @@
 -- Kept events and used ids.
---   kept_of s e          an event as one of the stream s
---   starts k            the start, in milliseconds
---   earlier x y         by start, then by arrival
---   id_before x y        by stream, then by id
---   same_id o i          an id that is there and is i
---   named n k           an event of the name's stream with its id
---   has_id k             an event with an id
---   active_at t k        the event is active at t
---   name_of s i          the id i in the stream s
---   used_as s i n        a used id that is this one
---   kept_as s i k        a kept event with this id, of this stream
---   dispatched t m k    the dispatch of an event at t
-use Rattle.std.specs.Prelude.{ℕ, Bool, true, false, cond, ◌&&◌, is_some, Some, None, Option, ◌==◌, nat_lt}
+--   kept_of s e        an event as one of the stream s
+--   starts k           the start, in milliseconds
+--   earlier x y        by start, then by arrival
+--   id_before x y      by stream, then by id
+--   same_id o i        an id that is there and is i
+--   named n k          an event of the name's stream with its id
+--   has_id k           an event with an id
+--   active_at t k      the event is active at t
+--   name_of s i        the id i in the stream s
+--   used_as s i n      a used id that is this one
+--   kept_as s i k      a kept event with this id, of this stream
+--   dispatched t m k   the dispatch of an event at t
+use Rattle.std.specs.Prelude.{ℕ, Bool, false, cond, ◌&&◌, is_some, Some, None, Option, ◌==◌, nat_lt}
 use Rattle.event.specs.declared.dispatches.Dispatch.{Dispatch}
 use Rattle.event.specs.declared.events.Event.{Event}
 use Rattle.event.specs.declared.modes.Trigger.{Trigger}

@@ -1,13 +1,13 @@
 -- Lists in order.
---   sorted before xs    no element stands before one in front of it
---   tied before x y     neither stands before the other
---   placed before x xs  x put in front of the first element that it is before
---   none p xs           no element passes p
---   any p xs            some element passes p
---   without p xs        the elements that do not pass p, in their order
---   leading p xs        what passes p stands in front of all that does not
---   prefix p xs         how many elements stand before the first that does not pass p
-use Rattle.std.specs.Prelude.{ℕ, suc, Bool, true, false, cond, not, ◌&&◌, List, [], ◌∷◌, filter}
+--   sorted before xs     no element stands before one in front of it
+--   tied before x y      neither stands before the other
+--   placed before x xs   x put in front of the first element that it is before
+--   none p xs            no element passes p
+--   any p xs             some element passes p
+--   without p xs         the elements that do not pass p, in their order
+--   leading p xs         what passes p stands in front of all that does not
+--   prefix p xs          how many elements stand before the first that does not pass p
+use Rattle.std.specs.Prelude.{ℕ, suc, Bool, true, cond, not, ◌&&◌, List, [], ◌∷◌, filter}
 
 abbrev pub none : {X : Type 0} → (X → Bool) → List X → Bool
 none p [] = true

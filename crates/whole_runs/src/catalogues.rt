@@ -1,11 +1,12 @@
 // Run sheets whose catalogue is refused, and those whose catalogue is full.
-use crate::lines::cases;
+use crate::reports::cases;
 use std::test::*;
 
 // Streams are numbered as they are listed; a pair is another one when either part differs.
 #[test]
 fn listed(rt: HostRuntime) -> Result<(), Fail> {
     cases(
+        &rt,
         rt.alloc(),
         "# nothing
          RAW -
@@ -35,6 +36,7 @@ fn listed(rt: HostRuntime) -> Result<(), Fail> {
 #[test]
 fn cut(rt: HostRuntime) -> Result<(), Fail> {
     cases(
+        &rt,
         rt.alloc(),
         "# behind its mark
          SV a -
@@ -67,6 +69,7 @@ fn cut(rt: HostRuntime) -> Result<(), Fail> {
 #[test]
 fn bad_strings(rt: HostRuntime) -> Result<(), Fail> {
     cases(
+        &rt,
         rt.alloc(),
         "# no scheme
          SV - v
@@ -97,6 +100,7 @@ fn bad_strings(rt: HostRuntime) -> Result<(), Fail> {
 #[test]
 fn twice(rt: HostRuntime) -> Result<(), Fail> {
     cases(
+        &rt,
         rt.alloc(),
         "# twice
          SV a -
@@ -114,6 +118,7 @@ fn twice(rt: HostRuntime) -> Result<(), Fail> {
 #[test]
 fn full(rt: HostRuntime) -> Result<(), Fail> {
     cases(
+        &rt,
         rt.alloc(),
         "# 32
          SVS 32

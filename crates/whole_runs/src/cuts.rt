@@ -1,6 +1,6 @@
 // A run sheet that has every mark, cut behind each of its bytes.
-use crate::lines::reported;
 use crate::records::run_sheet;
+use crate::reports::reported;
 use std::alloc::Global;
 use std::process::Abort;
 use std::test::*;

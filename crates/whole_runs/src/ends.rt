@@ -1,11 +1,12 @@
 // Where the reading of a run sheet ends, and how records are counted.
-use crate::lines::cases;
+use crate::reports::cases;
 use std::test::*;
 
 // 65,536 bytes are read, and one more is 5, whatever they are.
 #[test]
 fn lengths(rt: HostRuntime) -> Result<(), Fail> {
     cases(
+        &rt,
         rt.alloc(),
         "# 65,536 and a cut record
          SV a -
@@ -58,6 +59,7 @@ fn lengths(rt: HostRuntime) -> Result<(), Fail> {
 #[test]
 fn marks(rt: HostRuntime) -> Result<(), Fail> {
     cases(
+        &rt,
         rt.alloc(),
         "# unknown
          RAW XX
@@ -107,6 +109,7 @@ fn marks(rt: HostRuntime) -> Result<(), Fail> {
 #[test]
 fn late_streams(rt: HostRuntime) -> Result<(), Fail> {
     cases(
+        &rt,
         rt.alloc(),
         "# whole
          SV a -
@@ -138,6 +141,7 @@ fn late_streams(rt: HostRuntime) -> Result<(), Fail> {
 #[test]
 fn stops(rt: HostRuntime) -> Result<(), Fail> {
     cases(
+        &rt,
         rt.alloc(),
         "# told before
          SV a -
@@ -170,6 +174,7 @@ fn stops(rt: HostRuntime) -> Result<(), Fail> {
 #[test]
 fn cut_first(rt: HostRuntime) -> Result<(), Fail> {
     cases(
+        &rt,
         rt.alloc(),
         "# follow
          SV a -
@@ -212,6 +217,7 @@ fn cut_first(rt: HostRuntime) -> Result<(), Fail> {
 #[test]
 fn counted(rt: HostRuntime) -> Result<(), Fail> {
     cases(
+        &rt,
         rt.alloc(),
         "# 300 plays
          SV a -

@@ -1,24 +1,30 @@
 // The bundled run sheets.
-use crate::lines::reports;
 use crate::records::run_sheet;
+use crate::reports::reports;
+use std::process::Abort;
 use std::test::*;
 
 // The bundled run sheet of this name reports these lines; its bytes are printed, so that they can be held against those of its file.
-fn example(rt: HostRuntime, name: &str, sheet: &str, lines: &str) -> Result<(), Fail> {
+fn example(
+    rt: &(impl Abort + AllocGlobal + Print),
+    name: &str,
+    sheet: &str,
+    lines: &str,
+) -> Result<(), Fail> {
     let media = run_sheet(rt.alloc(), sheet)?;
     let mut bytes = String::new(rt.alloc());
     for byte in media.as_slice() {
         write!(bytes, "{byte:02x}")?;
     }
     println!(rt; "{name}.run {bytes}")?;
-    reports(rt.alloc(), sheet, lines)
+    reports(rt, rt.alloc(), sheet, lines)
 }
 
 // The ordinary break.
 #[test]
 fn example_break(rt: HostRuntime) -> Result<(), Fail> {
     example(
-        rt,
+        &rt,
         "break",
         "SV a -
          FO 0 2
@@ -35,7 +41,7 @@ fn example_break(rt: HostRuntime) -> Result<(), Fail> {
 #[test]
 fn example_twice(rt: HostRuntime) -> Result<(), Fail> {
     example(
-        rt,
+        &rt,
         "twice",
         "SV ad -
          FO 0 2
@@ -54,7 +60,7 @@ fn example_twice(rt: HostRuntime) -> Result<(), Fail> {
 #[test]
 fn example_back(rt: HostRuntime) -> Result<(), Fail> {
     example(
-        rt,
+        &rt,
         "back",
         "SV ad -
          FO 0 2
@@ -76,7 +82,7 @@ fn example_back(rt: HostRuntime) -> Result<(), Fail> {
 #[test]
 fn example_full(rt: HostRuntime) -> Result<(), Fail> {
     example(
-        rt,
+        &rt,
         "full",
         "SV ad -
          SV log -
@@ -101,7 +107,7 @@ fn example_full(rt: HostRuntime) -> Result<(), Fail> {
 #[test]
 fn example_modes(rt: HostRuntime) -> Result<(), Fail> {
     example(
-        rt,
+        &rt,
         "modes",
         "SV ad -
          SV meta -
@@ -125,7 +131,7 @@ fn example_modes(rt: HostRuntime) -> Result<(), Fail> {
 #[test]
 fn example_broken(rt: HostRuntime) -> Result<(), Fail> {
     example(
-        rt,
+        &rt,
         "broken",
         "SV ad -
          FO 0 2

@@ -2,9 +2,9 @@
 #![tactic(auto)]
 
 #[cfg(test)]
-mod calls;
-#[cfg(test)]
 mod catalogues;
+#[cfg(test)]
+mod commands;
 #[cfg(test)]
 mod cuts;
 #[cfg(test)]
@@ -12,14 +12,14 @@ mod ends;
 #[cfg(test)]
 mod examples;
 #[cfg(test)]
-mod lines;
+mod full_tables;
 #[cfg(test)]
 mod plays;
 #[cfg(test)]
 mod records;
 #[cfg(test)]
+mod reports;
+#[cfg(test)]
 mod segments;
 #[cfg(test)]
 mod sheets;
-#[cfg(test)]
-mod tables;

@@ -1,11 +1,12 @@
 // What is told in whole runs, and when.
-use crate::lines::cases;
+use crate::reports::cases;
 use std::test::*;
 
 // Streams that are not followed, not listed or left are passed; on receive tells all at the playhead, again and again.
 #[test]
 fn modes(rt: HostRuntime) -> Result<(), Fail> {
     cases(
+        &rt,
         rt.alloc(),
         "# passed
          SV a -
@@ -74,6 +75,7 @@ fn modes(rt: HostRuntime) -> Result<(), Fail> {
 #[test]
 fn starts(rt: HostRuntime) -> Result<(), Fail> {
     cases(
+        &rt,
         rt.alloc(),
         "# starts
          SV a -
@@ -136,6 +138,7 @@ fn starts(rt: HostRuntime) -> Result<(), Fail> {
 #[test]
 fn ids(rt: HostRuntime) -> Result<(), Fail> {
     cases(
+        &rt,
         rt.alloc(),
         "# ids
          SV a -
@@ -174,6 +177,7 @@ fn ids(rt: HostRuntime) -> Result<(), Fail> {
 #[test]
 fn order(rt: HostRuntime) -> Result<(), Fail> {
     cases(
+        &rt,
         rt.alloc(),
         "# order
          SV a -
@@ -205,6 +209,7 @@ fn order(rt: HostRuntime) -> Result<(), Fail> {
 #[test]
 fn seeks(rt: HostRuntime) -> Result<(), Fail> {
     cases(
+        &rt,
         rt.alloc(),
         "# edges
          SV a -
@@ -267,6 +272,7 @@ fn seeks(rt: HostRuntime) -> Result<(), Fail> {
 #[test]
 fn leaves(rt: HostRuntime) -> Result<(), Fail> {
     cases(
+        &rt,
         rt.alloc(),
         "# leaves
          SV a -
@@ -329,6 +335,7 @@ fn leaves(rt: HostRuntime) -> Result<(), Fail> {
 #[test]
 fn evicts(rt: HostRuntime) -> Result<(), Fail> {
     cases(
+        &rt,
         rt.alloc(),
         "# evicts
          SV a -

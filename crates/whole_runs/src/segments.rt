@@ -1,11 +1,12 @@
 // Segments in whole runs: each number of making and reading, and the times that they give.
-use crate::lines::cases;
+use crate::reports::cases;
 use std::test::*;
 
 // The times of a segment: 6, then 9, then 10; each before any box is read.
 #[test]
 fn making(rt: HostRuntime) -> Result<(), Fail> {
     cases(
+        &rt,
         rt.alloc(),
         "# making
          SV a -
@@ -40,6 +41,7 @@ fn making(rt: HostRuntime) -> Result<(), Fail> {
 #[test]
 fn boxes(rt: HostRuntime) -> Result<(), Fail> {
     cases(
+        &rt,
         rt.alloc(),
         "# stepped over
          SV a -
@@ -95,6 +97,7 @@ fn boxes(rt: HostRuntime) -> Result<(), Fail> {
 #[test]
 fn heads(rt: HostRuntime) -> Result<(), Fail> {
     cases(
+        &rt,
         rt.alloc(),
         "# heads
          SV a -
@@ -138,6 +141,7 @@ fn heads(rt: HostRuntime) -> Result<(), Fail> {
 #[test]
 fn fields(rt: HostRuntime) -> Result<(), Fail> {
     cases(
+        &rt,
         rt.alloc(),
         "# fields
          SV a -
@@ -178,6 +182,7 @@ fn fields(rt: HostRuntime) -> Result<(), Fail> {
 #[test]
 fn numbers(rt: HostRuntime) -> Result<(), Fail> {
     cases(
+        &rt,
         rt.alloc(),
         "# version 0
          SV a -
@@ -245,6 +250,7 @@ fn numbers(rt: HostRuntime) -> Result<(), Fail> {
 #[test]
 fn fractions(rt: HostRuntime) -> Result<(), Fail> {
     cases(
+        &rt,
         rt.alloc(),
         "# fractions
          SV a -
@@ -273,6 +279,7 @@ fn fractions(rt: HostRuntime) -> Result<(), Fail> {
 #[test]
 fn arrivals(rt: HostRuntime) -> Result<(), Fail> {
     cases(
+        &rt,
         rt.alloc(),
         "# arrivals
          SV a -

@@ -1,11 +1,12 @@
 // Sheets in whole runs: each fault, what was drawn before it, and the times at their limits.
-use crate::lines::cases;
+use crate::reports::cases;
 use std::test::*;
 
 // Each fault of a sheet; what stands before it was drawn, and what stands behind it is dropped.
 #[test]
 fn faults(rt: HostRuntime) -> Result<(), Fail> {
     cases(
+        &rt,
         rt.alloc(),
         "# 11 mark
          SV a -
@@ -132,6 +133,7 @@ fn faults(rt: HostRuntime) -> Result<(), Fail> {
 #[test]
 fn fault_order(rt: HostRuntime) -> Result<(), Fail> {
     cases(
+        &rt,
         rt.alloc(),
         "# order
          SV a -
@@ -164,6 +166,7 @@ fn fault_order(rt: HostRuntime) -> Result<(), Fail> {
 #[test]
 fn latest(rt: HostRuntime) -> Result<(), Fail> {
     cases(
+        &rt,
         rt.alloc(),
         "# starts
          SV a -
@@ -227,6 +230,7 @@ fn latest(rt: HostRuntime) -> Result<(), Fail> {
 #[test]
 fn periods(rt: HostRuntime) -> Result<(), Fail> {
     cases(
+        &rt,
         rt.alloc(),
         "# periods
          SV a -
@@ -265,6 +269,7 @@ fn periods(rt: HostRuntime) -> Result<(), Fail> {
 #[test]
 fn messages(rt: HostRuntime) -> Result<(), Fail> {
     cases(
+        &rt,
         rt.alloc(),
         "# messages
          SV a -

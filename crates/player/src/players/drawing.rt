@@ -19,15 +19,15 @@ use tables::{Kept, UsedId};
 
 // Tells a sink that has a free place.
 pub(crate) fn tell_free<S: Sink>(sink: &mut S, dispatch: Dispatch)
-    requires { 0 < (held sink.old).free }
-    ensures { held sink.new ≡ more (held sink.old) dispatch }
+    requires { 0 < (S.held sink.old).free }
+    ensures { S.held sink.new ≡ more (S.held sink.old) dispatch }
 {
     let _ = sink.tell(dispatch);
 }
 
 // Tells a sink an event that was received, where it has a free place.
 pub(crate) fn tell_received<S: Sink>(dispatch: Dispatch, sink: &mut S) -> Result<Drawn, Refusal>
-    ensures after { (w : State) → (answer result, w, held sink.new) ≡ telling dispatch w w (held sink.old) }
+    ensures after { (w : State) → (answer result, w, S.held sink.new) ≡ telling dispatch w w (S.held sink.old) }
     ensures same { is_ok result ≡ false → sink.new ≡ sink.old }
 {
     if sink.free_places() == 0 {
@@ -101,7 +101,7 @@ impl Player<'_> {
     // Tells an active event at the playhead, and its id becomes used.
     pub(crate) fn tell_now<S: Sink>(&mut self, event: Kept, sink: &mut S) -> Result<Drawn, Refusal>
         requires { known event (state self.old) ≡ false }
-        ensures after { (answer result, state self.new, held sink.new) ≡ tells_now event (state self.old) (held sink.old) }
+        ensures after { (answer result, state self.new, S.held sink.new) ≡ tells_now event (state self.old) (S.held sink.old) }
         ensures lent { Lent self.old self.new }
         ensures same { is_ok result ≡ false → (self.new ≡ self.old) × (sink.new ≡ sink.old) }
     {
@@ -122,7 +122,7 @@ impl Player<'_> {
         event: Kept,
         sink: &mut S,
     ) -> Result<Drawn, Refusal>
-        ensures after { (answer result, state self.new, held sink.new) ≡ on_start event (state self.old) (held sink.old) }
+        ensures after { (answer result, state self.new, S.held sink.new) ≡ on_start event (state self.old) (S.held sink.old) }
         ensures lent { Lent self.old self.new }
         ensures same { is_ok result ≡ false → (self.new ≡ self.old) × (sink.new ≡ sink.old) }
     {
@@ -141,7 +141,7 @@ impl Player<'_> {
 
     // What becomes of a record: the first fitting line.
     pub(crate) fn receive<S: Sink>(&mut self, event: Event, sink: &mut S) -> Result<Drawn, Refusal>
-        ensures after { (answer result, state self.new, held sink.new) ≡ receives event (state self.old) (held sink.old) }
+        ensures after { (answer result, state self.new, S.held sink.new) ≡ receives event (state self.old) (S.held sink.old) }
         ensures lent { Lent self.old self.new }
         ensures same { is_ok result ≡ false → (self.new ≡ self.old) × (sink.new ≡ sink.old) }
     {
@@ -161,7 +161,7 @@ impl Player<'_> {
 
     // Looks at a feed, and steps it past a record that is not refused.
     pub fn draw<F: Feed, S: Sink>(&mut self, feed: &mut F, sink: &mut S) -> Result<Drawn, Refusal>
-        ensures after { (answer result, state self.new, held sink.new, coming feed.new) ≡ draws (coming feed.old) (state self.old) (held sink.old) }
+        ensures after { (answer result, state self.new, S.held sink.new, F.coming feed.new) ≡ draws (F.coming feed.old) (state self.old) (S.held sink.old) }
         ensures lent { Lent self.old self.new }
         ensures same { is_ok result ≡ false → (self.new ≡ self.old) × (sink.new ≡ sink.old) × (feed.new ≡ feed.old) }
     {

@@ -29,15 +29,15 @@ pub(crate) fn tell_picked<P: Pick, S: Sink>(
     sink: &mut S,
 ) -> usize
     requires within { kept.now.len ≤ length kept.now.slots.now }
-    requires free { length (filter (P.Test.passing pick.now) (items kept.now)) ≤ (held sink.old).free }
-    requires room { used.old.len + ids (filter (P.Test.passing pick.now) (items kept.now)) ≤ length used.old.slots.now }
+    requires free { length (filter (P.passing pick.now) (items kept.now)) ≤ (S.held sink.old).free }
+    requires room { used.old.len + ids (filter (P.passing pick.now) (items kept.now)) ≤ length used.old.slots.now }
     requires sorted { sorted id_before (items used.old) ≡ true }
-    ensures value { result ≡ length (filter (P.Test.passing pick.now) (items kept.now)) }
-    ensures told { held sink.new ≡ told_to (held sink.old) (map (told_by (told_at pick.now)) (filter (P.Test.passing pick.now) (items kept.now))) }
-    ensures items { items used.new ≡ marked_all (filter (P.Test.passing pick.now) (items kept.now)) (items used.old) }
+    ensures value { result ≡ length (filter (P.passing pick.now) (items kept.now)) }
+    ensures told { S.held sink.new ≡ told_to (S.held sink.old) (map (told_by (P.told_at pick.now)) (filter (P.passing pick.now) (items kept.now))) }
+    ensures items { items used.new ≡ marked_all (filter (P.passing pick.now) (items kept.now)) (items used.old) }
     ensures slots { used.new.slots.now ≡ front (items used.new) used.old.slots.now }
     ensures places { length used.new.slots.now ≡ length used.old.slots.now }
-    ensures len { used.new.len ≡ used.old.len + ids (filter (P.Test.passing pick.now) (items kept.now)) }
+    ensures len { used.new.len ≡ used.old.len + ids (filter (P.passing pick.now) (items kept.now)) }
 {
     let slots = &*kept.slots;
     let mut told = 0;
@@ -55,10 +55,10 @@ pub(crate) fn tell_picked<P: Pick, S: Sink>(
 impl Player<'_> {
     // Tells the kept events that a pick takes; they are no longer kept and their ids are used.
     pub(crate) fn tell_kept<P: Pick, S: Sink>(&mut self, pick: &P, sink: &mut S) -> usize
-        requires { length (filter (P.Test.passing pick.now) (state self.old).kept) ≤ (held sink.old).free }
-        ensures value { result ≡ length (filter (P.Test.passing pick.now) (state self.old).kept) }
-        ensures after { state self.new ≡ moved (state self.old).playhead (P.Test.passing pick.now) (state self.old) }
-        ensures told { held sink.new ≡ told_to (held sink.old) (map (told_by (told_at pick.now)) (filter (P.Test.passing pick.now) (state self.old).kept)) }
+        requires { length (filter (P.passing pick.now) (state self.old).kept) ≤ (S.held sink.old).free }
+        ensures value { result ≡ length (filter (P.passing pick.now) (state self.old).kept) }
+        ensures after { state self.new ≡ moved (state self.old).playhead (P.passing pick.now) (state self.old) }
+        ensures told { S.held sink.new ≡ told_to (S.held sink.old) (map (told_by (P.told_at pick.now)) (filter (P.passing pick.now) (state self.old).kept)) }
         ensures lent { Lent self.old self.new }
     {
         let used = self.used.len;
@@ -87,8 +87,8 @@ impl Player<'_> {
 
     // Plays to a time: tells what starts after the playhead and up to it, as far as the sink has places for all of one start.
     pub fn play<S: Sink>(&mut self, to: u64, sink: &mut S) -> Result<Played, Refusal>
-        ensures after { (answer result, state self.new, held sink.new) ≡ plays to (state self.old) (held sink.old) }
-        ensures furthest { IfOk result (λ p. Furthest (state self.old) (held sink.old).free to p.playhead.ms) }
+        ensures after { (answer result, state self.new, S.held sink.new) ≡ plays to (state self.old) (S.held sink.old) }
+        ensures furthest { IfOk result (λ p. Furthest (state self.old) (S.held sink.old).free to p.playhead.ms) }
         ensures lent { Lent self.old self.new }
         ensures same { is_ok result ≡ false → (self.new ≡ self.old) × (sink.new ≡ sink.old) }
     {
@@ -110,7 +110,7 @@ impl Player<'_> {
 
     // Jumps to a time, forward or back: tells every kept event that is active there.
     pub fn seek<S: Sink>(&mut self, to: u64, sink: &mut S) -> Result<usize, Refusal>
-        ensures after { (answer result, state self.new, held sink.new) ≡ seeks to (state self.old) (held sink.old) }
+        ensures after { (answer result, state self.new, S.held sink.new) ≡ seeks to (state self.old) (S.held sink.old) }
         ensures lent { Lent self.old self.new }
         ensures same { is_ok result ≡ false → (self.new ≡ self.old) × (sink.new ≡ sink.old) }
     {

@@ -11,10 +11,10 @@ impl<T: Ordered> Rows<'_, T> {
     // Puts x in front of the first element that it is before.
     pub(crate) fn insert(&mut self, x: T)
         requires room { self.old.len < length self.old.slots.now }
-        requires sorted { sorted before (items self.old) ≡ true }
-        ensures items { items self.new ≡ placed before x (items self.old) }
-        ensures ordered { sorted before (items self.new) ≡ true }
-        ensures slots { self.new.slots.now ≡ front (placed before x (items self.old)) self.old.slots.now }
+        requires sorted { sorted T.before (items self.old) ≡ true }
+        ensures items { items self.new ≡ placed T.before x (items self.old) }
+        ensures ordered { sorted T.before (items self.new) ≡ true }
+        ensures slots { self.new.slots.now ≡ front (placed T.before x (items self.old)) self.old.slots.now }
         ensures places { length self.new.slots.now ≡ length self.old.slots.now }
         ensures len { self.new.len ≡ self.old.len + 1 }
     {
@@ -30,10 +30,10 @@ impl<T: Copy> Rows<'_, T> {
     // Removes what passes a test; the rest moves to the front, in its order.
     pub(crate) fn remove<P: Test<T>>(&mut self, test: &P)
         requires within { self.old.len ≤ length self.old.slots.now }
-        ensures items { items self.new ≡ without (passing test.now) (items self.old) }
-        ensures slots { self.new.slots.now ≡ front (without (passing test.now) (items self.old)) self.old.slots.now }
+        ensures items { items self.new ≡ without (P.passing test.now) (items self.old) }
+        ensures slots { self.new.slots.now ≡ front (without (P.passing test.now) (items self.old)) self.old.slots.now }
         ensures places { length self.new.slots.now ≡ length self.old.slots.now }
-        ensures len { self.new.len ≡ length (without (passing test.now) (items self.old)) }
+        ensures len { self.new.len ≡ length (without (P.passing test.now) (items self.old)) }
     {
         let len = self.len;
         let mut left = 0;

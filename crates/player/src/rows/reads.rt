@@ -10,9 +10,9 @@ impl<T: Copy> Rows<'_, T> {
     // How many elements stand before the first that fails a test, where all behind that one fail too: found by halving.
     pub(crate) fn ahead<P: Test<T>>(&self, test: &P) -> usize
         requires within { self.now.len ≤ length self.now.slots.now }
-        requires leading { leading (passing test.now) (items self.now) ≡ true }
+        requires leading { leading (P.passing test.now) (items self.now) ≡ true }
         ensures bound { result ≤ self.now.len }
-        ensures value { result ≡ prefix (passing test.now) (items self.now) }
+        ensures value { result ≡ prefix (P.passing test.now) (items self.now) }
     {
         let slots = &*self.slots;
         let mut low = 0;
@@ -31,7 +31,7 @@ impl<T: Copy> Rows<'_, T> {
     // How many elements pass a test.
     pub(crate) fn count<P: Test<T>>(&self, test: &P) -> usize
         requires { self.now.len ≤ length self.now.slots.now }
-        ensures { result ≡ length (filter (passing test.now) (items self.now)) }
+        ensures { result ≡ length (filter (P.passing test.now) (items self.now)) }
     {
         let slots = &*self.slots;
         let mut count = 0;
@@ -46,7 +46,7 @@ impl<T: Copy> Rows<'_, T> {
     // Whether an element passes a test.
     pub(crate) fn has<P: Test<T>>(&self, test: &P) -> bool
         requires { self.now.len ≤ length self.now.slots.now }
-        ensures { result ≡ any (passing test.now) (items self.now) }
+        ensures { result ≡ any (P.passing test.now) (items self.now) }
     {
         let slots = &*self.slots;
         for i in 0..self.len {
@@ -62,8 +62,8 @@ impl<T: Ordered> Rows<'_, T> {
     // Whether an element is tied with x.
     pub(crate) fn holds(&self, x: T) -> bool
         requires within { self.now.len ≤ length self.now.slots.now }
-        requires sorted { sorted before (items self.now) ≡ true }
-        ensures { result ≡ any (tied before x) (items self.now) }
+        requires sorted { sorted T.before (items self.now) ≡ true }
+        ensures { result ≡ any (tied T.before x) (items self.now) }
     {
         let count = self.ahead(&UpTo { value: x });
         if count == 0 {

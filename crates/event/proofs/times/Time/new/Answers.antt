@@ -1,4 +1,4 @@
-use Rattle.std.proofs.Common.{true, leb, Some, refl, ap, arith}
+use Rattle.std.proofs.Common.{Some, refl, ap}
 use Rattle.std.proofs.lemmas.Bool.{le-leb}
 use Rattle.event.proofs.Clock.{time_of}
 use Rattle.event.proofs.times.Time.new.Goals as goal

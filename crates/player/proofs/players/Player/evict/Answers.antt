@@ -1,4 +1,4 @@
-use Rattle.std.proofs.Common.{◌≡◌, sym, refl, ap, ◌∙◌, arith, rules}
+use Rattle.std.proofs.Common.{sym, refl, ap, ◌∙◌, arith}
 use Rattle.event.specs.Fronts.{front}
 use Rattle.std.proofs.lemmas.Bool.{true≢false}
 use Rattle.player.specs.declared.players.Head.{Head}
@@ -18,15 +18,15 @@ count-self-requires c =
     let kept = c.remove.ensures in
     forget_within c.args.self.now (arrived_in c.args.from c.args.to) c.remove.new.self kept.items kept.len kept.places
 
-pub invariant-of-self : goal.invariant-of-self
-invariant-of-self c =
+pub invariant_of-self : goal.invariant_of-self
+invariant_of-self c =
     let p = c.args.self.now in
     let kept = c.remove.ensures in
     let h : Head = record { streams = p.head.streams; playhead = p.head.playhead; modes = p.head.modes; kept_ids = c.count-self.result } in
-    (forget_sound p (arrived_in c.args.from c.args.to) c.remove.new.self kept.items kept.len kept.places h p.used p.sound.1.1 (omega arith) refl c.count-self.ensures refl (λ s i. omega arith), tt)
+    record { sound = forget_sound p (arrived_in c.args.from c.args.to) c.remove.new.self kept.items kept.len kept.places h p.used p.sound.1.1 (omega arith) refl c.count-self.ensures refl (λ s i. omega arith) }
 
-pub overflow-sub-result : goal.overflow-sub-result
-overflow-sub-result c =
+pub overflow_sub-result : goal.overflow_sub-result
+overflow_sub-result c =
     let kept = c.remove.ensures in
     forget_fewer c.args.self.now (arrived_in c.args.from c.args.to) c.remove.new.self kept.items kept.len kept.places
 

@@ -25,21 +25,21 @@ count-self-requires c =
     let kept = c.remove.ensures in
     forget_within c.args.self.now (kept_in c.args.stream) c.remove.new.self kept.items kept.len kept.places
 
-pub invariant-of-self : goal.invariant-of-self
-invariant-of-self c =
+pub invariant_of-self : goal.invariant_of-self
+invariant_of-self c =
     let p = c.args.self.now in
     let kept = c.remove.ensures in
     let used = c.remove-2.ensures in
     let h : Head = record { streams = p.head.streams; playhead = p.head.playhead; modes = p.head.modes; kept_ids = c.count-self.result } in
     let ordered = ap (sorted id_before) used.items ∙ sorted_filtered id_before (fails (used_in c.args.stream)) (items p.used) p.sound.1.1 in
-    let fewer = used_fewer p (used_in c.args.stream) c.remove-2.new.self used.len in (
-      forget_sound p (kept_in c.args.stream) c.remove.new.self kept.items kept.len kept.places h c.remove-2.new.self ordered fewer used.places c.count-self.ensures refl
-          (λ s i. omega (arith, count_apart (used_as s i) (used_in c.args.stream) (items p.used), ap (λ l. length (filter (used_as s i) l)) used.items)),
-      tt,
-    )
+    let fewer = used_fewer p (used_in c.args.stream) c.remove-2.new.self used.len in
+    record {
+      sound = forget_sound p (kept_in c.args.stream) c.remove.new.self kept.items kept.len kept.places h c.remove-2.new.self ordered fewer used.places c.count-self.ensures refl
+          (λ s i. omega (arith, count_apart (used_as s i) (used_in c.args.stream) (items p.used), ap (λ l. length (filter (used_as s i) l)) used.items));
+    }
 
-pub overflow-sub-result : goal.overflow-sub-result
-overflow-sub-result c =
+pub overflow_sub-result : goal.overflow_sub-result
+overflow_sub-result c =
     let kept = c.remove.ensures in
     forget_fewer c.args.self.now (kept_in c.args.stream) c.remove.new.self kept.items kept.len kept.places
 

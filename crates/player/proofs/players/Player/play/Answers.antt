@@ -1,6 +1,6 @@
-use Rattle.std.proofs.Common.{◌≡◌, length, sym, refl, ap, ◌∙◌, arith}
+use Rattle.std.proofs.Common.{length, refl, ap, ◌∙◌, arith}
 use Rattle.std.proofs.lemmas.Bool.{true≢false}
-use Rattle.event.proofs.Clock.{made_none, made_some, time_ms}
+use Rattle.event.proofs.Clock.{made_none, made_some}
 use Rattle.calls.specs.Plays.{due, reach}
 use Rattle.tables.specs.Picks.{starts_in}
 use Rattle.player.specs.Rows.{items}
@@ -11,11 +11,11 @@ use Rattle.calls.proofs.Outcomes.{furthest_reach, reach_within, still_over}
 use Rattle.player.proofs.Soundness.{lent_same, moved_sound}
 use Rattle.player.proofs.players.Player.play.Goals as goal
 
-pub returns-in-default : goal.returns-in-default
-returns-in-default g c =
+pub returns-in_default : goal.returns-in_default
+returns-in_default g c =
     let p = c.args.self.now in
     record {
-      after = plays_late c.args.to (state p) _ (made_none c.args.to c.in-default.ensures);
+      after = plays_late c.args.to (state p) _ (made_none c.args.to c.in_default.ensures);
       furthest = tt;
       lent = lent_same p;
       same = λ _. (refl, refl);
@@ -32,25 +32,25 @@ returns-then-ms g c =
       same = λ _. (refl, refl);
     }
 
-pub tell-kept-told-requires : goal.tell-kept-told-requires
-tell-kept-told-requires g c =
+pub tell_kept-told-requires : goal.tell_kept-told-requires
+tell_kept-told-requires g c =
     let p = c.args.self.now in
     let w = state p in
     let free = (g.S.Sink.held c.args.sink.now).free in
-    let reached = c.reach-playhead.ensures ∙ ap (λ n. reach w n c.in-Some.target.ms) c.free-places.ensures in
+    let reached = c.reach-playhead.ensures ∙ ap (λ n. reach w n c.in-Some.target.ms) c.free_places.ensures in
     let fits = due_fits p.head.playhead.ms c.in-Some.target.ms free (items p.kept) p.sound.1.0 in
     omega (arith, fits, ap (λ u. length (due w u)) reached)
 
-pub invariant-of-self : goal.invariant-of-self
-invariant-of-self g c =
+pub invariant_of-self : goal.invariant_of-self
+invariant_of-self g c =
     let p = c.args.self.now in
     let w = state p in
     let free = (g.S.Sink.held c.args.sink.now).free in
     let reached = c.reach-playhead.ensures in
-    let within = reach_within w c.free-places.result c.in-Some.target.ms (omega arith) in
+    let within = reach_within w c.free_places.result c.in-Some.target.ms (omega arith) in
     let r = c.reach-playhead.result in
-    let kept-is = ap (λ q. q.kept) c.tell-kept-told.ensures.after in
-    (tt, (moved_sound p c.tell-kept-told.new.self r (starts_in p.head.playhead.ms r.ms) kept-is (λ k e f. still_over p.head.playhead.ms r.ms r.ms k (omega (arith, reached, within)) (omega arith) e f), tt))
+    let kept-is = ap (λ q. q.kept) c.tell_kept-told.ensures.after in
+    record { sound = moved_sound p c.tell_kept-told.new.self r (starts_in p.head.playhead.ms r.ms) kept-is (λ k e f. still_over p.head.playhead.ms r.ms r.ms k (omega (arith, reached, within)) (omega arith) e f) }
 
 pub returns : goal.returns
 returns g c =
@@ -58,10 +58,10 @@ returns g c =
     let w = state p in
     let h = g.S.Sink.held c.args.sink.now in
     let made = made_some c.args.to c.in-Some.target c.in-Some.ensures in
-    let reached = c.reach-playhead.ensures ∙ ap (λ n. reach w n c.in-Some.target.ms) c.free-places.ensures ∙ ap (reach w h.free) made.1 in
-    let told = c.tell-kept-told.ensures in
+    let reached = c.reach-playhead.ensures ∙ ap (λ n. reach w n c.in-Some.target.ms) c.free_places.ensures ∙ ap (reach w h.free) made.1 in
+    let told = c.tell_kept-told.ensures in
     record {
-      after = played c.args.to w (state c.tell-kept-told.new.self) h (g.S.Sink.held c.tell-kept-told.new.sink) c.tell-kept-told.result c.reach-playhead.result
+      after = played c.args.to w (state c.tell_kept-told.new.self) h (g.S.Sink.held c.tell_kept-told.new.sink) c.tell_kept-told.result c.reach-playhead.result
           made.0 (omega (arith, made.1)) reached told.value told.after told.told;
       furthest = furthest_reach c.args.to w h c.reach-playhead.result.ms p.sound.1.0 (omega (arith, made.1)) reached;
       lent = told.lent;

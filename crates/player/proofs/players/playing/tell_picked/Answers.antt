@@ -1,4 +1,4 @@
-use Rattle.std.proofs.Common.{◌≡◌, ◌+◌, map, length, take, filter, sym, refl, ap, ◌∙◌, arith}
+use Rattle.std.proofs.Common.{◌≡◌, ◌+◌, map, length, take, filter, sym, ap, ◌∙◌, arith}
 use Rattle.event.specs.declared.modes.Trigger.TheVariants.{Start}
 use Rattle.tables.specs.Elements.{dispatched}
 use Rattle.calls.specs.Plays.{marked_all, told_by, told_to}
@@ -11,8 +11,8 @@ use Rattle.player.proofs.players.playing.tell_picked.Goals.{then-passes, else-pa
 pub loop-i-init : goal.loop-i-init
 loop-i-init g c = told_none _ _ _ _ _ (omega arith)
 
-pub tell-free-requires : goal.tell-free-requires
-tell-free-requires g c =
+pub tell_free-requires : goal.tell_free-requires
+tell_free-requires g c =
     place_left c.loop-i.invariant (omega arith) c.index-slots-i.is (sym c.if-passes.ensures) c.args.kept.now.len c.loop-i-test.true c.requires.free
 
 pub mark-requires : goal.mark-requires
@@ -21,8 +21,8 @@ mark-requires g c = record {
   sorted = still_sorted c.loop-i.invariant (omega arith) c.index-slots-i.is (sym c.if-passes.ensures) c.args.kept.now.len c.loop-i-test.true c.requires.sorted;
 }
 
-pub overflow-add-told : goal.overflow-add-told
-overflow-add-told g c = omega (arith, told_behind c.loop-i.invariant)
+pub overflow_add-told : goal.overflow_add-told
+overflow_add-told g c = omega (arith, told_behind c.loop-i.invariant)
 
 pub loop-i-preserved : goal.loop-i-preserved
 loop-i-preserved g c =
@@ -32,7 +32,7 @@ loop-i-preserved g c =
           let done = w.mark.ensures in
           rw (w.used-is, w.sink-is, w.told-is)
           (told_one c.loop-i.invariant (omega arith) c.index-slots-i.is (sym w.if-passes.ensures) c.args.kept.now.len c.loop-i-test.true
-          w.mark.new.used (g.S.Sink.held w.tell-free.new.sink) w.dispatch.result is w.tell-free.ensures done.items done.slots done.places done.len)
+          w.mark.new.used (g.S.Sink.held w.tell_free.new.sink) w.dispatch.result is w.tell_free.ensures done.items done.slots done.places done.len)
       | else-passes w ↦ rw (w.used-is, w.sink-is, w.told-is) (told_skip c.loop-i.invariant (omega arith) c.index-slots-i.is (sym w.if-passes.ensures))
     ]
 

@@ -1,4 +1,4 @@
-use Rattle.std.proofs.Common.{sym, ◌∙◌, arith}
+use Rattle.std.proofs.Common.{sym, arith}
 use Rattle.tables.proofs.Prefixes.{fails_at, passes_at, prefix_take}
 use Rattle.player.proofs.rows.Rows.ahead.Goals as goal
 

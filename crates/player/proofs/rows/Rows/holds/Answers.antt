@@ -16,6 +16,6 @@ returns-then-count-eq0 g c =
 pub returns : goal.returns
 returns g c =
     let laws = g.met.T.Ordered in
-    ap not c.is-before.ensures
+    ap not c.is_before.ensures
     ∙ last_decides g.T.Ordered.before laws.opposite laws.further c.args.x c.args.self.now.slots.now c.args.self.now.len c.ahead-count.result c.index-slots-count.result
     c.requires.within c.requires.sorted c.ahead-count.ensures.value c.ahead-count.ensures.bound c.if-count-eq0.false c.index-slots-count.is

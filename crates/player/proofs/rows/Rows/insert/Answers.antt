@@ -16,8 +16,8 @@ returns g c =
     let xs = c.args.self.now.slots.now in
     let n = c.args.self.now.len in
     let ys = placed g.T.Ordered.before c.args.x (take n xs) in
-    let slots = inserted g.T.Ordered.before c.args.x xs n c.ahead-count.result _ c.rotate-right.new.self
-    c.requires.room c.ahead-count.ensures.value c.ahead-count.ensures.bound refl c.rotate-right.ensures.after in
+    let slots = inserted g.T.Ordered.before c.args.x xs n c.ahead-count.result _ c.rotate_right.new.self
+    c.requires.room c.ahead-count.ensures.value c.ahead-count.ensures.bound refl c.rotate_right.ensures.after in
     let items-is = ap (take (n + 1)) slots ∙ take_front ys xs (n + 1) (omega (arith, length_placed g.T.Ordered.before c.args.x (take n xs), length-take-le n xs (omega arith))) in
     let laws = g.met.T.Ordered in
     record {

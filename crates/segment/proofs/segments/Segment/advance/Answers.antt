@@ -8,16 +8,16 @@ returns-in-Clean c = at_clean c.loop-segment.segment c.in-Clean.ensures ∙ c.lo
 pub returns-in-Broken : goal.returns-in-Broken
 returns-in-Broken c = at_broken c.loop-segment.segment _ c.in-Broken.ensures ∙ c.loop-segment.invariant.0
 
-pub overflow-add-segment : goal.overflow-add-segment
-overflow-add-segment c =
+pub overflow_add-segment : goal.overflow_add-segment
+overflow_add-segment c =
     let h = gives_within c.loop-segment.segment _ _ _ c.in-Gives.ensures in
     omega (arith, c.loop-segment.invariant.1)
 
 pub returns-in-Gives : goal.returns-in-Gives
 returns-in-Gives c = at_gives c.loop-segment.segment _ _ _ c.in-Gives.ensures ∙ c.loop-segment.invariant.0
 
-pub overflow-add-segment-in-Passes : goal.overflow-add-segment-in-Passes
-overflow-add-segment-in-Passes c =
+pub overflow_add-segment-in-Passes : goal.overflow_add-segment-in-Passes
+overflow_add-segment-in-Passes c =
     let h = passes_within c.loop-segment.segment _ _ c.in-Passes.ensures in
     omega (arith, c.loop-segment.invariant.1)
 

@@ -9,11 +9,11 @@ use Rattle.segment.proofs.SegmentTurns.{reads_turn}
 use Rattle.segment.proofs.segments.Segment.turn.Goals as goal
 use Rattle.segment.proofs.segments.Segment.turn.Goals.{In-Reads}
 
-pub overflow-cast-result : goal.overflow-cast-result
-overflow-cast-result c =
+pub overflow_cast-result : goal.overflow_cast-result
+overflow_cast-result c =
     let bytes = c.left-bytes.result.now in
     let long = part_fits c.args.self.stretch.media.now c.args.self.place c.args.self.stretch.to in
-    let apart = eqb-false (length bytes) 0 (sym c.if-is-empty.ensures) in
+    let apart = eqb-false (length bytes) 0 (sym c.if-is_empty.ensures) in
     let good = other_usable c.of-size.result (length bytes) c.kind.result c.version.result (omega arith) c.in-Other.ensures in
     omega (arith, ap length c.left-bytes.ensures)
 
@@ -22,13 +22,13 @@ within : (c : In-Reads) → c.args.self.place + c.span-span.result ≤ c.args.se
 within c =
     let bytes = c.left-bytes.result.now in
     let long = part_fits c.args.self.stretch.media.now c.args.self.place c.args.self.stretch.to in
-    let apart = eqb-false (length bytes) 0 (sym c.if-is-empty.ensures) in
+    let apart = eqb-false (length bytes) 0 (sym c.if-is_empty.ensures) in
     let good = reads_usable c.of-size.result (length bytes) c.kind.result c.version.result c.in-Reads.version (omega arith) c.in-Reads.ensures in
     let some = good.some in
     omega (arith, ap length c.left-bytes.ensures)
 
-pub overflow-cast-span : goal.overflow-cast-span
-overflow-cast-span c = let fits = within c in omega arith
+pub overflow_cast-span : goal.overflow_cast-span
+overflow_cast-span c = let fits = within c in omega arith
 
 pub give-requires : goal.give-requires
 give-requires c =
@@ -40,6 +40,6 @@ give-requires c =
 pub returns-in-Reads : goal.returns-in-Reads
 returns-in-Reads c =
     let self = c.args.self in let bytes = c.left-bytes.result.now in
-    let apart = eqb-false (length bytes) 0 (sym c.if-is-empty.ensures) in
+    let apart = eqb-false (length bytes) 0 (sym c.if-is_empty.ensures) in
     reads_turn (listed self.catalogue.now) self.timing c.in-Reads.version self.place c.span-span.result bytes c.body-body.result.now c.of-size.result c.kind.result c.version.result c.give.result (omega arith) c.of-size.ensures c.body-body.ensures c.span-span.ensures c.kind.ensures c.version.ensures c.in-Reads.ensures c.give.ensures
     ∙ ap (segment_turn (listed self.catalogue.now) self.timing tt self.place) c.left-bytes.ensures

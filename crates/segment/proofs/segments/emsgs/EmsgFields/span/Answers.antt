@@ -4,4 +4,4 @@ use Rattle.segment.proofs.segments.emsgs.EmsgFields.span.Goals as goal
 
 pub returns-in-Some : goal.returns-in-Some
 returns-in-Some c =
-    span_scaled c.args.timing c.args.version (fields c.args.self) c.in-Some.timescale c.span-in.result c.in-Some.ensures c.span-in.ensures
+    span_scaled c.args.timing c.args.version (fields c.args.self) c.in-Some.timescale c.span_in.result c.in-Some.ensures c.span_in.ensures

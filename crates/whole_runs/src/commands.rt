@@ -1,11 +1,12 @@
 // What each command is refused for; a refusal of these ends nothing and changes nothing.
-use crate::lines::cases;
+use crate::reports::cases;
 use std::test::*;
 
 // Follow: 16, then 17, then 18.
 #[test]
 fn follows(rt: HostRuntime) -> Result<(), Fail> {
     cases(
+        &rt,
         rt.alloc(),
         "# follow
          SV a -
@@ -43,6 +44,7 @@ fn follows(rt: HostRuntime) -> Result<(), Fail> {
 #[test]
 fn leaves(rt: HostRuntime) -> Result<(), Fail> {
     cases(
+        &rt,
         rt.alloc(),
         "# leave
          SV a -
@@ -67,6 +69,7 @@ fn leaves(rt: HostRuntime) -> Result<(), Fail> {
 #[test]
 fn plays(rt: HostRuntime) -> Result<(), Fail> {
     cases(
+        &rt,
         rt.alloc(),
         "# play
          PL 4000000000001
@@ -90,6 +93,7 @@ fn plays(rt: HostRuntime) -> Result<(), Fail> {
 #[test]
 fn seeks(rt: HostRuntime) -> Result<(), Fail> {
     cases(
+        &rt,
         rt.alloc(),
         "# seek
          SK 4000000000001
@@ -107,6 +111,7 @@ fn seeks(rt: HostRuntime) -> Result<(), Fail> {
 #[test]
 fn evicts(rt: HostRuntime) -> Result<(), Fail> {
     cases(
+        &rt,
         rt.alloc(),
         "# evict
          SV a -

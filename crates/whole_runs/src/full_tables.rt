@@ -1,11 +1,12 @@
 // Tables and the list when nearly full and full: 64 kept events, 256 ids, 256 dispatches.
-use crate::lines::cases;
+use crate::reports::cases;
 use std::test::*;
 
 // 64 events are kept; the next is 22. What is passed, a repeat or told at once is not refused, and a place that is given back is used again.
 #[test]
 fn events(rt: HostRuntime) -> Result<(), Fail> {
     cases(
+        &rt,
         rt.alloc(),
         "# 64
          SV a -
@@ -106,6 +107,7 @@ fn events(rt: HostRuntime) -> Result<(), Fail> {
 #[test]
 fn ids(rt: HostRuntime) -> Result<(), Fail> {
     cases(
+        &rt,
         rt.alloc(),
         "# 256
          SV a -
@@ -242,6 +244,7 @@ fn ids(rt: HostRuntime) -> Result<(), Fail> {
 #[test]
 fn list(rt: HostRuntime) -> Result<(), Fail> {
     cases(
+        &rt,
         rt.alloc(),
         "# 256
          SV a -

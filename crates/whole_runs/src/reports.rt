@@ -5,6 +5,7 @@ use player::{Kept, Player, Tables, UsedId};
 use run::{Opening, Run};
 use sink::RecordList;
 use std::alloc::Global;
+use std::process::Abort;
 use std::test::*;
 
 const NO_DISPATCH: Dispatch = Dispatch {
@@ -71,7 +72,7 @@ fn add_row(text: &mut String, row: &str) -> Result<(), Fail> {
 }
 
 // The run sheet reports `cues 1` and then these lines, a row for many.
-pub(crate) fn reports(heap: Global, sheet: &str, lines: &str) -> Result<(), Fail> {
+pub(crate) fn reports(rt: &impl Abort, heap: Global, sheet: &str, lines: &str) -> Result<(), Fail> {
     let mut expected = String::from_str(heap, "cues 1\n")?;
     for line in lines.lines() {
         let line = line.trim_ascii();
@@ -82,16 +83,16 @@ pub(crate) fn reports(heap: Global, sheet: &str, lines: &str) -> Result<(), Fail
         }
     }
     let text = reported(heap, &run_sheet(heap, sheet)?)?;
-    assert_eq!(text.as_str(), expected.as_str(), "{}", sheet);
+    assert_eq!(rt; text.as_str(), expected.as_str(), "{}", sheet);
     Ok(())
 }
 
 // Each case reports what it says: a case is a run sheet, a line `---` and the lines, and an empty line stands behind it.
-pub(crate) fn cases(heap: Global, text: &str) -> Result<(), Fail> {
+pub(crate) fn cases(rt: &impl Abort, heap: Global, text: &str) -> Result<(), Fail> {
     for case in text.split("\n\n") {
         match case.split_once("---") {
             None => return Err(Fail::new("a case has no lines")),
-            Some((sheet, lines)) => reports(heap, sheet, lines)?,
+            Some((sheet, lines)) => reports(rt, heap, sheet, lines)?,
         }
     }
     Ok(())
