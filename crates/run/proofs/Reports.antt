@@ -9,7 +9,7 @@ use Rattle.event.specs.declared.refusals.Refusal.{Refusal}
 use Rattle.catalogue.specs.Pairs.{Stream}
 use Rattle.calls.specs.State.{State}
 use Rattle.runsheet.specs.Openings.{more}
-use Rattle.runsheet.specs.RunSheets.{Commands, first_of, next_of, rest_of}
+use Rattle.runsheet.specs.RunSheets.{Commands, first_of, head_of, rest_of}
 use Rattle.runsheet.specs.declared.commands.Command.{Command}
 use Rattle.effects.specs.Effects.{After, performs}
 use Rattle.lines.specs.declared.lines.Line.{Line}
@@ -26,7 +26,7 @@ module _ (media : List ℕ) (streams : List Stream) (n : ℕ) (w : State) (h : H
   ended (c ∷ cs) x e = let z : ◌≡◌ {A = ℕ} 0 1 = cc in absurd (omega arith)
 
   -- at the end of the run sheet
-  pub behind_end : (v : Commands) → None ≡ next_of v → closing w ≡ behind v n media streams w h
+  pub behind_end : (v : Commands) → None ≡ head_of v → closing w ≡ behind v n media streams w h
   behind_end v e = ended v.items v.stop e
 
   stopped : (cs : List Command) (x : Option Refusal) (e : Refusal) → Some (Err e) ≡ first_of cs x → reports [] (more n 1) (refusal e) (closing w) ≡ performed cs x n media streams w h
@@ -35,7 +35,7 @@ module _ (media : List ℕ) (streams : List Stream) (n : ℕ) (w : State) (h : H
   stopped (c ∷ cs) x e q = let z : ◌≡◌ {A = ℕ} 0 1 = cc in absurd (omega arith)
 
   -- at a record that stops the reading
-  pub behind_stop : (v : Commands) (e : Refusal) → Some (Err e) ≡ next_of v → reports [] (more n 1) (refusal e) (closing w) ≡ behind v n media streams w h
+  pub behind_stop : (v : Commands) (e : Refusal) → Some (Err e) ≡ head_of v → reports [] (more n 1) (refusal e) (closing w) ≡ behind v n media streams w h
   behind_stop v e q = stopped v.items v.stop e q
 
   abbrev after : After → Commands → List Line
@@ -47,21 +47,21 @@ module _ (media : List ℕ) (streams : List Stream) (n : ℕ) (w : State) (h : H
   taken c (d ∷ cs) x e = let s : c ≡ d = cc in ap (λ y. after (performs y media streams w h) (record { items = cs; stop = x })) s
 
   -- at a command
-  pub behind_command : (v u : Commands) (c : Command) (a : After) → Some (Ok c) ≡ next_of v → u ≡ rest_of v → a ≡ performs c media streams w h → after a u ≡ behind v n media streams w h
+  pub behind_command : (v u : Commands) (c : Command) (a : After) → Some (Ok c) ≡ head_of v → u ≡ rest_of v → a ≡ performs c media streams w h → after a u ≡ behind v n media streams w h
   behind_command v u c a e r p = (λ i. after (p i) (r i)) ∙ taken c v.items v.stop e
 
   none_played : (cs : List Command) (x : Option Refusal) → None ≡ first_of cs x → (w, h) ≡ played cs media streams w h
   none_played [] x e = refl
   none_played (c ∷ cs) x e = let z : ◌≡◌ {A = ℕ} 0 1 = cc in absurd (omega arith)
 
-  pub played_end : (v : Commands) → None ≡ next_of v → (w, h) ≡ played v.items media streams w h
+  pub played_end : (v : Commands) → None ≡ head_of v → (w, h) ≡ played v.items media streams w h
   played_end v e = none_played v.items v.stop e
 
   stop_played : (cs : List Command) (x : Option Refusal) (e : Refusal) → Some (Err e) ≡ first_of cs x → (w, h) ≡ played cs media streams w h
   stop_played [] x e q = refl
   stop_played (c ∷ cs) x e q = let z : ◌≡◌ {A = ℕ} 0 1 = cc in absurd (omega arith)
 
-  pub played_stop : (v : Commands) (e : Refusal) → Some (Err e) ≡ next_of v → (w, h) ≡ played v.items media streams w h
+  pub played_stop : (v : Commands) (e : Refusal) → Some (Err e) ≡ head_of v → (w, h) ≡ played v.items media streams w h
   played_stop v e q = stop_played v.items v.stop e q
 
   one_played : (c : Command) (cs : List Command) (x : Option Refusal) → Some (Ok c) ≡ first_of cs x → played (drop 1 cs) media streams (performs c media streams w h).1 (performs c media streams w h).2 ≡ played cs media streams w h
@@ -69,7 +69,7 @@ module _ (media : List ℕ) (streams : List Stream) (n : ℕ) (w : State) (h : H
   one_played c [] (Some x) e = let z : ◌≡◌ {A = ℕ} 0 1 = cc in absurd (omega arith)
   one_played c (d ∷ cs) x e = let s : c ≡ d = cc in ap (λ y. played cs media streams (performs y media streams w h).1 (performs y media streams w h).2) s
 
-  pub played_command : (v u : Commands) (c : Command) (a : After) → Some (Ok c) ≡ next_of v → u ≡ rest_of v → a ≡ performs c media streams w h → played u.items media streams a.1 a.2 ≡ played v.items media streams w h
+  pub played_command : (v u : Commands) (c : Command) (a : After) → Some (Ok c) ≡ head_of v → u ≡ rest_of v → a ≡ performs c media streams w h → played u.items media streams a.1 a.2 ≡ played v.items media streams w h
   played_command v u c a e r p = (λ i. played (r i).items media streams (p i).1 (p i).2) ∙ one_played c v.items v.stop e
 
 fewer : (c : Command) (cs : List Command) (x : Option Refusal) → Some (Ok c) ≡ first_of cs x → length (drop 1 cs) < length cs
@@ -78,7 +78,7 @@ fewer c [] (Some x) e = let z : ◌≡◌ {A = ℕ} 0 1 = cc in absurd (omega ar
 fewer c (d ∷ cs) x e = omega arith
 
 -- a command that was read is no more to come
-pub less_to_read : (v u : Commands) (c : Command) → Some (Ok c) ≡ next_of v → u ≡ rest_of v → suc (length u.items) < suc (length v.items)
+pub less_to_read : (v u : Commands) (c : Command) → Some (Ok c) ≡ head_of v → u ≡ rest_of v → suc (length u.items) < suc (length v.items)
 less_to_read v u c e r = omega (arith, fewer c v.items v.stop e, ap (λ y. length y.items) r)
 
 -- what is pending once all of it is reported

@@ -11,7 +11,7 @@ use Rattle.media.specs.declared.walks.Turn.TheVariants.{Clean, Broken, Gives}
 use Rattle.media.proofs.Parts as parts
 use Rattle.media.proofs.Turns.{given_is}
 use Rattle.runsheet.specs.Commands.{Read, command}
-use Rattle.runsheet.specs.RunSheets.{Commands, command_turn, commands, next_of, rest_of, turn_of}
+use Rattle.runsheet.specs.RunSheets.{Commands, command_turn, commands, head_of, rest_of, turn_of}
 use Rattle.runsheet.specs.declared.commands.Command.{Command}
 use Rattle.runsheet.proofs.Reading.{Fits, command_fits}
 
@@ -33,20 +33,20 @@ on_from_lem s at t e =
 
 -- what a call that reads the next command answers, and the commands behind it
 pub record Reads (w v : Commands) (r : Option (Result Command Refusal)) : Type 0 where
-  pub value : r ≡ next_of w
+  pub head : r ≡ head_of w
   pub rest : v ≡ rest_of w
 
 pub at_end_lem : (s : Stretch) (at : ℕ) → eqb (length (left s at)) 0 ≡ true → Reads (on_from s at) (on_from s at) None
 at_end_lem s at h =
     let turn = on_from_lem s at Clean (cond-true (eqb (length (left s at)) 0) Clean (turn_of (command at (left s at))) h) in
-    subst (λ w. Reads w w None) (sym turn) (record { value = refl; rest = refl })
+    subst (λ w. Reads w w None) (sym turn) (record { head = refl; rest = refl })
 
 pub at_stop : (s : Stretch) (at : ℕ) → eqb (length (left s at)) 0 ≡ false → None ≡ command at (left s at) → Reads (on_from s at) (on_from s at) (Some (Err RunSheetRecord))
 at_stop s at h e =
     let turn = on_from_lem s at (Broken RunSheetRecord) (cond-false (eqb (length (left s at)) 0) Clean (turn_of (command at (left s at))) h ∙ ap turn_of (sym e)) in
-    subst (λ w. Reads w w (Some (Err RunSheetRecord))) (sym turn) (record { value = refl; rest = refl })
+    subst (λ w. Reads w w (Some (Err RunSheetRecord))) (sym turn) (record { head = refl; rest = refl })
 
 pub at_command : (s : Stretch) (at : ℕ) (c : Command) (n : ℕ) → eqb (length (left s at)) 0 ≡ false → ◌≡◌ {A = Read} (Some (c, n)) (command at (left s at)) → Reads (on_from s at) (on_from s (at + n)) (Some (Ok c))
 at_command s at c n h e =
     let turn = on_from_lem s at (Gives c tt n) (cond-false (eqb (length (left s at)) 0) Clean (turn_of (command at (left s at))) h ∙ ap turn_of (sym e)) in
-    subst (λ w. Reads w (on_from s (at + n)) (Some (Ok c))) (sym turn) (record { value = refl; rest = refl })
+    subst (λ w. Reads w (on_from s (at + n)) (Some (Ok c))) (sym turn) (record { head = refl; rest = refl })

@@ -1,10 +1,10 @@
 -- A command's record, and how long it is.
-use Rattle.std.proofs.Common.{◌≡◌, ℕ, ◌+◌, ◌-◌, ◌<◌, ◌≤◌, true, cond, ◌&&◌, eqb, leb, List, length, drop, Some, None, Option, sym, refl, ap, ◌∙◌, subst, inl, inr, arith}
+use Rattle.std.proofs.Common.{◌≡◌, ℕ, ◌+◌, ◌-◌, ◌<◌, ◌≤◌, true, cond, ◌&&◌, eqb, leb, List, length, drop, Some, None, Option, refl, ap, ◌∙◌, inl, inr, arith}
 use Rattle.std.specs.List.{between}
 use Rattle.std.proofs.lemmas.List.{length-drop, length-take}
 use Rattle.std.proofs.lemmas.Bool.{and_parts, cases_Bool, cond_both, eqb-true, le-leb, leb-true}
 use Rattle.media.specs.BigEndian.{num16, num64}
-use Rattle.runsheet.specs.Commands.{Read, command, draw_segment, draw_sheet, marked, segment_length, segment_of, segment_times}
+use Rattle.runsheet.specs.Commands.{Goes, Read, command, draw_segment, draw_sheet, marked, segment_length, segment_of, segment_times}
 use Rattle.runsheet.specs.RunSheets.{length_of}
 use Rattle.runsheet.specs.declared.commands.Command.{Command}
 use Rattle.runsheet.specs.declared.commands.Command.TheVariants.{DrawSegment}
@@ -59,8 +59,7 @@ module _ (at start : ℕ) (bs fs : List ℕ) (fields : fs ≡ drop 10 bs) (t : T
 
 -- a record that was read has at least one byte, and at most n
 abbrev pub Fits : ℕ → Read → Type 0
-Fits n None = Unit {0}
-Fits n (Some (c, k)) = (0 < k) × (k ≤ n)
+Fits n r = Goes r n
 
 segment_goes : (at start : ℕ) (bs : List ℕ) (o : Option Times) (l : Option ℕ) → o ≡ segment_times (drop 10 bs) → l ≡ segment_length (drop 10 bs) → Fits (length bs) (segment_of at start o l)
 segment_goes at start bs None l p q = tt
@@ -99,7 +98,3 @@ length_fits n (Some (c, k)) h = h.1
 -- where no byte is left, no record is
 pub none_left : (at : ℕ) (bs : List ℕ) → eqb (length bs) 0 ≡ true → at ≡ at + length_of (command at bs)
 none_left at bs h = omega (arith, length_fits (length bs) (command at bs) (command_fits at bs), eqb-true (length bs) 0 h)
-
--- a record stands before the end of the stretch
-pub read_fits : (at : ℕ) (bs : List ℕ) (c : Command) (n : ℕ) → ◌≡◌ {A = Read} (Some (c, n)) (command at bs) → (0 < n) × (n ≤ length bs)
-read_fits at bs c n e = subst (Fits (length bs)) (sym e) (command_fits at bs)

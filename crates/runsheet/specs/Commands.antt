@@ -1,5 +1,6 @@
 -- The commands of a run sheet, as the bytes of its records have them.
 --   Read                 a command and the length of its record, or none where the record is cut
+--   Goes r n             a record has at least one byte, and at most n
 --   follow bs            FO: stream in byte 2, mode in byte 3
 --   leave bs             LV: stream in byte 2
 --   play bs              PL: the time in bytes 2 to 9
@@ -11,7 +12,7 @@
 --   draw_segment at bs   SG: the period start in bytes 2 to 9, E 10 to 17, O 18 to 25, S 26 to 29, P 30 to 37, Q 38 to 41, the length in bytes 42 and 43, the segment from byte 44 on
 --   marked a b bs        the first two bytes are the mark a b
 --   command at bs        the command by its mark; none where the mark is unknown
-use Rattle.std.specs.Prelude.{ℕ, ◌+◌, Bool, cond, ◌&&◌, List, length, drop, Some, None, Option, ◌==◌, nat_le, slice_index}
+use Rattle.std.specs.Prelude.{ℕ, ◌+◌, ◌<◌, ◌≤◌, Bool, cond, ◌&&◌, List, length, drop, Some, None, Option, ◌==◌, nat_le, slice_index}
 use Rattle.event.specs.Modes.{mode_of}
 use Rattle.media.specs.BigEndian.{num16, num32, num64}
 use Rattle.runsheet.specs.declared.commands.Command.{Command}
@@ -20,6 +21,10 @@ use Rattle.runsheet.specs.declared.commands.Command.TheVariants.{Follow, Leave, 
 
 abbrev pub Read : Type 0
 Read = Option (Command × ℕ)
+
+abbrev pub Goes : Read → ℕ → Type 0
+Goes None n = Unit {0}
+Goes (Some (c, k)) n = (0 < k) × (k ≤ n)
 
 abbrev pub follow : List ℕ → Read
 follow bs = cond (nat_le 4 (length bs)) (Some (Follow (slice_index bs 2) (mode_of (slice_index bs 3)), 4)) None

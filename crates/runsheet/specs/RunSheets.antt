@@ -2,15 +2,19 @@
 --   WholeMedia m r            a run sheet at its first record over the whole of m; refused with 5 where m is too long
 --   Commands                  the commands of a run sheet, and the refusal that stops the reading, if one does
 --   turn_of r                 one turn over the record that was read; refused with 30 where there is none
---   command_turn at bs one turn over the bytes bs, which stand at a place: a clean end where none is left
+--   command_turn at bs        one turn over the bytes bs, which stand at a place: a clean end where none is left
 --   commands at bs            the commands that the bytes bs hold, which stand at a place
 --   commands_in s             the commands that are still to come in a run sheet
 --   at_end x, first_of cs x   what stands next where no command is left, and before the commands cs
---   next_of w                 what stands next: a command, or the refusal that stops the reading; nothing at the end
+--   head_of w                 what stands next: a command, or the refusal that stops the reading; nothing at the end
 --   rest_of w                 all but the first command
+--   command_of r              the command that was read; where there is none, 30
 --   length_of r               the length of the record that was read; 0 where there is none
---   counted o n               the records counted, with the next one among them, if there is one
-use Rattle.std.specs.Prelude.{◌≡◌, ℕ, true, false, cond, List, [], ◌∷◌, length, drop, Some, None, Ok, Err, Option, Result, ◌==◌, nat_le}
+--   next_of at bs             what stands next, at a place with the bytes bs left; nothing where none is left
+--   counted bs n              the records counted, with the next one among them, if there is one
+--   Onward r a b to           after a command the place has moved on from a to b, within the media buffer
+--   counted_with o n          the records counted, with the next one among them, if there is one
+use Rattle.std.specs.Prelude.{◌≡◌, ℕ, ◌+◌, ◌<◌, ◌≤◌, min, true, false, cond, List, [], ◌∷◌, length, drop, Some, None, Ok, Err, Option, Result, ◌==◌, nat_le}
 use Rattle.event.specs.Numbers.{refusal}
 use Rattle.event.specs.Numbers.Answer.{refused}
 use Rattle.event.specs.declared.refusals.Refusal.{Refusal}
@@ -52,8 +56,8 @@ abbrev pub first_of : List Command → Option Refusal → Option (Result Command
 first_of [] stop = at_end stop
 first_of (c ∷ cs) stop = Some (Ok c)
 
-abbrev pub next_of : Commands → Option (Result Command Refusal)
-next_of w = first_of w.items w.stop
+abbrev pub head_of : Commands → Option (Result Command Refusal)
+head_of w = first_of w.items w.stop
 
 abbrev pub rest_of : Commands → Commands
 rest_of w = record { items = drop 1 w.items; stop = w.stop }
@@ -62,6 +66,21 @@ abbrev pub length_of : Read → ℕ
 length_of None = 0
 length_of (Some (c, n)) = n
 
-abbrev pub counted : Option (Result Command Refusal) → ℕ → ℕ
-counted None n = n
-counted (Some r) n = more n 1
+abbrev pub counted_with : Option (Result Command Refusal) → ℕ → ℕ
+counted_with None n = n
+counted_with (Some r) n = more n 1
+
+abbrev pub command_of : Read → Result Command Refusal
+command_of None = Err RunSheetRecord
+command_of (Some (c, n)) = Ok c
+
+abbrev pub next_of : ℕ → List ℕ → Option (Result Command Refusal)
+next_of at bs = cond (length bs == 0) None (Some (command_of (command at bs)))
+
+abbrev pub counted : List ℕ → ℕ → ℕ
+counted bs n = cond (length bs == 0) n (min (n + 1) 18446744073709551615)
+
+abbrev pub Onward : Option (Result Command Refusal) → ℕ → ℕ → ℕ → Type 0
+Onward None a b to = Unit {0}
+Onward (Some (Err e)) a b to = Unit {0}
+Onward (Some (Ok c)) a b to = (a < b) × (b ≤ to)

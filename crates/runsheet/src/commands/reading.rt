@@ -1,6 +1,6 @@
 // Reading a command from the bytes of its record.
-ghost use Rattle.std.specs.Prelude.{◌≡◌};
-ghost use Rattle.runsheet.specs.Commands.{command, draw_segment, draw_sheet, evict, follow, leave, play, seek, segment_length, segment_times};
+ghost use Rattle.std.specs.Prelude.{◌≡◌, length};
+ghost use Rattle.runsheet.specs.Commands.{Goes, command, draw_segment, draw_sheet, evict, follow, leave, play, seek, segment_length, segment_times};
 
 use super::{Command, Times};
 use event::Mode;
@@ -8,7 +8,8 @@ use event::Mode;
 impl Command {
     // The command of the record at the front of the bytes, which stand at a place, and the record's length; none where the mark is unknown or the record is cut.
     pub fn read(place: u32, bytes: &[u8]) -> Option<(Command, u32)>
-        ensures { result ≡ command place bytes.now }
+        ensures value { result ≡ command place bytes.now }
+        ensures length { Goes result (length bytes.now) }
     {
         match bytes {
             [b'F', b'O', ..] => follow(bytes),
@@ -25,7 +26,8 @@ impl Command {
 
 // `FO`: a stream and a mode.
 fn follow(bytes: &[u8]) -> Option<(Command, u32)>
-    ensures { result ≡ follow bytes.now }
+    ensures value { result ≡ follow bytes.now }
+    ensures length { Goes result (length bytes.now) }
 {
     let [_, _, stream, mode, ..] = bytes else {
         return None;
@@ -42,7 +44,8 @@ fn follow(bytes: &[u8]) -> Option<(Command, u32)>
 
 // `LV`: a stream.
 fn leave(bytes: &[u8]) -> Option<(Command, u32)>
-    ensures { result ≡ leave bytes.now }
+    ensures value { result ≡ leave bytes.now }
+    ensures length { Goes result (length bytes.now) }
 {
     let [_, _, stream, ..] = bytes else {
         return None;
@@ -52,7 +55,8 @@ fn leave(bytes: &[u8]) -> Option<(Command, u32)>
 
 // `SK`: a time.
 fn seek(bytes: &[u8]) -> Option<(Command, u32)>
-    ensures { result ≡ seek bytes.now }
+    ensures value { result ≡ seek bytes.now }
+    ensures length { Goes result (length bytes.now) }
 {
     let [_, _, t0, t1, t2, t3, t4, t5, t6, t7, ..] = bytes else {
         return None;
@@ -63,7 +67,8 @@ fn seek(bytes: &[u8]) -> Option<(Command, u32)>
 
 // `EX`: two times.
 fn evict(bytes: &[u8]) -> Option<(Command, u32)>
-    ensures { result ≡ evict bytes.now }
+    ensures value { result ≡ evict bytes.now }
+    ensures length { Goes result (length bytes.now) }
 {
     let [
         _,
@@ -96,7 +101,8 @@ fn evict(bytes: &[u8]) -> Option<(Command, u32)>
 
 // `PL`: a time.
 fn play(bytes: &[u8]) -> Option<(Command, u32)>
-    ensures { result ≡ play bytes.now }
+    ensures value { result ≡ play bytes.now }
+    ensures length { Goes result (length bytes.now) }
 {
     let [_, _, t0, t1, t2, t3, t4, t5, t6, t7, ..] = bytes else {
         return None;
@@ -107,7 +113,8 @@ fn play(bytes: &[u8]) -> Option<(Command, u32)>
 
 // `MP`: a period start, a length, and a sheet of that length.
 fn draw_sheet(place: u32, bytes: &[u8]) -> Option<(Command, u32)>
-    ensures { result ≡ draw_sheet place bytes.now }
+    ensures value { result ≡ draw_sheet place bytes.now }
+    ensures length { Goes result (length bytes.now) }
 {
     let [_, _, s0, s1, s2, s3, s4, s5, s6, s7, l0, l1, rest @ ..] = bytes else {
         return None;
@@ -124,7 +131,8 @@ fn draw_sheet(place: u32, bytes: &[u8]) -> Option<(Command, u32)>
 
 // `SG`: a period start, the times of a segment, a length, and a segment of that length.
 fn draw_segment(place: u32, bytes: &[u8]) -> Option<(Command, u32)>
-    ensures { result ≡ draw_segment place bytes.now }
+    ensures value { result ≡ draw_segment place bytes.now }
+    ensures length { Goes result (length bytes.now) }
 {
     let [_, _, s0, s1, s2, s3, s4, s5, s6, s7, fields @ ..] = bytes else {
         return None;

@@ -1,10 +1,10 @@
 // Reading a run sheet record by record.
-ghost use Rattle.std.specs.Prelude.{◌≡◌, ◌+◌};
+ghost use Rattle.std.specs.Prelude.{◌≡◌, ◌+◌, ◌≤◌};
 ghost use Rattle.media.specs.Stretches.{left};
 ghost use Rattle.catalogue.specs.CatalogueWalks.{all_listed, read};
 ghost use Rattle.runsheet.specs.Commands.{command, marked};
 ghost use Rattle.runsheet.specs.Openings.{lengths, more, opening_of, records_in};
-ghost use Rattle.runsheet.specs.RunSheets.{commands_in, counted, length_of, next_of, rest_of, WholeMedia};
+ghost use Rattle.runsheet.specs.RunSheets.{commands_in, counted, counted_with, head_of, length_of, next_of, Onward, rest_of, WholeMedia};
 
 use super::RunSheet;
 use crate::commands::Command;
@@ -38,6 +38,7 @@ impl<'a> RunSheet<'a> {
         ensures place { self.new.place ≡ self.old.place + lengths (opening_of self.old).items }
         ensures count { self.new.count ≡ more self.old.count (records_in (opening_of self.old)) }
         ensures over { self.new.stretch ≡ self.old.stretch }
+        ensures onward { self.old.place ≤ self.new.place }
     {
         let mut catalogue = Catalogue::new(self.stretch);
         while is_listing(self.stretch.left(self.place)) {
@@ -49,11 +50,14 @@ impl<'a> RunSheet<'a> {
 
     // The next command, or the refusal of a record with an unknown mark or that is cut; none at the end.
     pub fn next(&mut self) -> Option<Result<Command, Refusal>>
-        ensures value { result ≡ next_of (commands_in self.old) }
+        ensures value { result ≡ next_of self.old.place (left self.old.stretch self.old.place) }
+        ensures head { result ≡ head_of (commands_in self.old) }
         ensures rest { commands_in self.new ≡ rest_of (commands_in self.old) }
         ensures place { self.new.place ≡ self.old.place + length_of (command self.old.place (left self.old.stretch self.old.place)) }
-        ensures count { self.new.count ≡ counted result self.old.count }
+        ensures count { self.new.count ≡ counted (left self.old.stretch self.old.place) self.old.count }
+        ensures adds { self.new.count ≡ counted_with result self.old.count }
         ensures over { self.new.stretch ≡ self.old.stretch }
+        ensures onward { Onward result self.old.place self.new.place self.old.stretch.to }
     {
         let bytes = self.stretch.left(self.place);
         if bytes.is_empty() {

@@ -45,6 +45,7 @@ returns-in_err-self c =
       place = inv.3 ∙ ap (λ n. s.place + n) stop.long_as;
       count = count_refused s.count c.loop-self.self.count c.saturating_add-self.result _ ts inv.4 c.saturating_add-self.ensures stop.records;
       over = inv.0;
+      onward = omega (arith, inv.3);
     })
 
 pub loop-self-preserved : goal.loop-self-preserved
@@ -72,4 +73,5 @@ returns c =
       place = inv.3 ∙ ap (λ w. s.place + lengths w.items) whole;
       count = inv.4 ∙ ap (more s.count) (sym (add-zero (length ts))) ∙ ap (λ w. more s.count (records_in w)) whole;
       over = inv.0;
+      onward = omega (arith, inv.3);
     }
