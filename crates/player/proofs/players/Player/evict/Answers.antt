@@ -4,19 +4,9 @@ use Rattle.std.proofs.lemmas.Bool.{true≢false}
 use Rattle.player.specs.declared.players.Head.{Head}
 use Rattle.tables.specs.Picks.{arrived_in}
 use Rattle.player.specs.Players.{state}
-use Rattle.calls.proofs.Leaving.{evicts_back, evicts_done}
-use Rattle.player.proofs.Soundness.{forget_fewer, forget_sound, forget_within, forgotten, lent_same}
+use Rattle.calls.proofs.Leaving.{evicts_done}
+use Rattle.player.proofs.Soundness.{forget_fewer, forget_sound, forgotten, lent_same}
 use Rattle.player.proofs.players.Player.evict.Goals as goal
-
-pub returns-then-to-from : goal.returns-then-to-from
-returns-then-to-from c =
-    let p = c.args.self.now in
-    record { after = evicts_back c.args.from c.args.to (state p) c.if-to-from.true; lent = lent_same p; same = λ _. refl }
-
-pub count-self-requires : goal.count-self-requires
-count-self-requires c =
-    let kept = c.remove.ensures in
-    forget_within c.args.self.now (arrived_in c.args.from c.args.to) c.remove.new.self kept.items kept.len kept.places
 
 pub invariant_of-self : goal.invariant_of-self
 invariant_of-self c =

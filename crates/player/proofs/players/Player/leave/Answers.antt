@@ -11,19 +11,8 @@ use Rattle.tables.specs.Tables.{fails, sorted}
 use Rattle.calls.proofs.Counting.{count_apart}
 use Rattle.calls.proofs.Leaving.{leaves_done}
 use Rattle.tables.proofs.Filtered.{sorted_filtered}
-use Rattle.player.proofs.Soundness.{forget_fewer, forget_sound, forget_within, forgotten, lent_same, used_fewer}
+use Rattle.player.proofs.Soundness.{forget_fewer, forget_sound, forgotten, used_fewer}
 use Rattle.player.proofs.players.Player.leave.Goals as goal
-
-pub returns-then-stream-count : goal.returns-then-stream-count
-returns-then-stream-count c = record { after = search rules; lent = lent_same c.args.self.now; same = λ _. refl }
-
-pub returns-then-eq : goal.returns-then-eq
-returns-then-eq c = record { after = search rules; lent = lent_same c.args.self.now; same = λ _. refl }
-
-pub count-self-requires : goal.count-self-requires
-count-self-requires c =
-    let kept = c.remove.ensures in
-    forget_within c.args.self.now (kept_in c.args.stream) c.remove.new.self kept.items kept.len kept.places
 
 pub invariant_of-self : goal.invariant_of-self
 invariant_of-self c =

@@ -1,36 +1,15 @@
-use Rattle.std.proofs.Common.{length, refl, ap, ◌∙◌, arith}
+use Rattle.std.proofs.Common.{length, ap, ◌∙◌, arith}
 use Rattle.std.proofs.lemmas.Bool.{true≢false}
-use Rattle.event.proofs.Clock.{made_none, made_some}
+use Rattle.event.proofs.Clock.{made_some}
 use Rattle.calls.specs.Plays.{due, reach}
 use Rattle.tables.specs.Picks.{starts_in}
 use Rattle.player.specs.Rows.{items}
 use Rattle.player.specs.Players.{state}
-use Rattle.calls.proofs.Playing.{played, plays_back, plays_late}
+use Rattle.calls.proofs.Playing.{played}
 use Rattle.calls.proofs.Reaching.{due_fits}
 use Rattle.calls.proofs.Outcomes.{furthest_reach, reach_within, still_over}
-use Rattle.player.proofs.Soundness.{lent_same, moved_sound}
+use Rattle.player.proofs.Soundness.{moved_sound}
 use Rattle.player.proofs.players.Player.play.Goals as goal
-
-pub returns-in_default : goal.returns-in_default
-returns-in_default g c =
-    let p = c.args.self.now in
-    record {
-      after = plays_late c.args.to (state p) _ (made_none c.args.to c.in_default.ensures);
-      furthest = tt;
-      lent = lent_same p;
-      same = λ _. (refl, refl);
-    }
-
-pub returns-then-ms : goal.returns-then-ms
-returns-then-ms g c =
-    let p = c.args.self.now in
-    let made = made_some c.args.to c.in-Some.target c.in-Some.ensures in
-    record {
-      after = plays_back c.args.to (state p) _ made.0 (omega (arith, made.1));
-      furthest = tt;
-      lent = lent_same p;
-      same = λ _. (refl, refl);
-    }
 
 pub tell_kept-told-requires : goal.tell_kept-told-requires
 tell_kept-told-requires g c =

@@ -1,5 +1,5 @@
 use Rattle.std.proofs.Common.{get_or, sym, ap, arith}
-use Rattle.player.proofs.Fronts.{compacted_all, compacted_drop, compacted_keep}
+use Rattle.player.proofs.Fronts.{compacted_drop, compacted_keep}
 use Rattle.player.proofs.rows.Rows.remove.Goals as goal
 use Rattle.player.proofs.rows.Rows.remove.Goals.{then-not-passes, else-not-passes}
 
@@ -12,8 +12,3 @@ loop-i-preserved g c =
       | then-not-passes w ↦ rw (w.self-is, w.left-is) (compacted_keep inv.0 (omega arith) read (sym w.if-not-passes.ensures), inv.1)
       | else-not-passes w ↦ rw (w.self-is, w.left-is) (compacted_drop inv.0 (omega arith) read (sym w.if-not-passes.ensures), inv.1)
     ]
-
-pub returns : goal.returns
-returns g c =
-    let all = compacted_all c.loop-i.invariant.0 c.args.self.now.len (omega arith) in
-    record { items = all.items; slots = all.slots; places = all.places; len = all.len }
