@@ -1,28 +1,15 @@
 -- Strings as they stand in records.
-use Rattle.std.proofs.Common.{◌≡◌, ℕ, ◌+◌, ◌-◌, ◌≤◌, Bool, true, ◌&&◌, eqb, leb, List, length, get_or, take, drop, Some, None, Option, sym, refl, ap, ◌∙◌, subst, arith}
-use Rattle.std.specs.List.{IsAnyAnswer, between}
-use Rattle.std.proofs.lemmas.List.Elements.{contains_decides}
-use Rattle.std.proofs.lemmas.List.{drop-drop, length-drop, length-take-le, take_rest}
-use Rattle.std.proofs.lemmas.Bool.{and_from, and_parts, cond_both, cond-true, eq-eqb, le-leb, leb-true}
-use Rattle.std.proofs.lemmas.Bool.Decides.{Decides-by_or, Decides-eqb, same_from_decides}
+use Rattle.std.proofs.Common.{◌≡◌, ℕ, ◌+◌, ◌-◌, ◌≤◌, true, ◌&&◌, leb, List, length, get_or, take, drop, Some, None, sym, refl, ap, ◌∙◌, subst, arith}
+use Rattle.std.specs.List.{between}
+use Rattle.std.proofs.lemmas.List.{drop-drop, length-drop, length-take-le}
+use Rattle.std.proofs.lemmas.Bool.{and_from, and_parts, cond_both, eq-eqb, leb-true}
 use Rattle.media.proofs.Parts.{inside}
 use Rattle.catalogue.specs.Catalogues.{behind, ends}
-use Rattle.catalogue.specs.Pairs.{Stream, blank, front, fronted, listing, marked}
+use Rattle.catalogue.specs.Pairs.{Stream, front, fronted, listing, marked}
 
 -- a mark that is read byte by byte
 pub marked_from : (a b : ℕ) (bs : List ℕ) → get_or bs 0 0 ≡ a → get_or bs 1 0 ≡ b → marked a b bs ≡ true
 marked_from a b bs p q = and_from _ _ (eq-eqb _ a p) (eq-eqb _ b q)
-
--- what is read behind the mark and the lengths of an `SV` record
-pub listing_from : (bs : List ℕ) (r : Option Stream) → get_or bs 0 0 ≡ 83 → get_or bs 1 0 ≡ 86 → 4 ≤ length bs → r ≡ fronted (get_or bs 2 0) (get_or bs 3 0) (take (length bs - 4) (drop 4 bs)) → r ≡ listing bs
-listing_from bs r p q l e =
-    e ∙ ap (fronted (get_or bs 2 0) (get_or bs 3 0)) (take_rest bs 4) ∙
-    sym (cond-true _ (fronted (get_or bs 2 0) (get_or bs 3 0) (drop 4 bs)) None (and_from _ _ (marked_from 83 86 bs p q) (le-leb 4 (length bs) l)))
-
--- whether a 0 byte is among the bytes, as a search for it says
-pub blank_from : (bs : List ℕ) (r : Bool) → IsAnyAnswer (λ y t. eqb y 0 ≡ t) bs r → r ≡ blank bs
-blank_from bs r h =
-    same_from_decides r (blank bs) (contains_decides eqb Decides-eqb bs 0 r h) (Decides-by_or (λ b. eqb b 0) (λ b. b ≡ 0) blank (λ b. Decides-eqb b 0) refl (λ _ _. refl) bs)
 
 -- where the strings of an `SV` record stand in its bytes
 pub record Stands (bs : List ℕ) (s : Stream) : Type 0 where

@@ -1,12 +1,8 @@
 -- Parts of the media buffer.
-use Rattle.std.proofs.Common.{◌≡◌, ℕ, ◌+◌, ◌-◌, ◌≤◌, min, List, length, take, drop, arith, rules}
+use Rattle.std.proofs.Common.{◌≡◌, ℕ, ◌+◌, ◌-◌, ◌≤◌, List, length, take, drop, arith, rules}
 use Rattle.std.specs.List.{between}
 use Rattle.std.proofs.lemmas.List.{drop-drop, length-take, places, same_lists}
 use Rattle.std.proofs.lemmas.Slice.{between_is}
-
--- a part whose ends are clipped to the buffer is the part
-pub clipped : (m : List ℕ) (a b e s : ℕ) → e ≡ min (length m) b → s ≡ min e a → between s e m ≡ between a b m
-clipped m a b e s he hs = same_lists _ _ (search (rules, places)) (λ k d h. grind (arith, places))
 
 -- what is left of a part behind its first k bytes
 pub behind : (m : List ℕ) (a b k : ℕ) → drop k (between a b m) ≡ between (a + k) b m

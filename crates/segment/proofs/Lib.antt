@@ -3,4 +3,3 @@ pub mod Closings
 pub mod SegmentPlaces
 pub mod SegmentSteps
 pub mod SegmentTurns
-pub mod Spans

@@ -1,10 +1,7 @@
 use Rattle.std.proofs.Common.{rules}
-use Rattle.base64_codec.proofs.Filling.{start, room, next, done}
+use Rattle.base64_codec.proofs.Filling.{room, next, done}
 use Rattle.base64_codec.proofs.Fours.{decoded_on, decoded_end}
 use Rattle.base64_codec.proofs.decoding.unpack.Goals as goal
-
-pub loop-rest-init : goal.loop-rest-init
-loop-rest-init c = start _ _
 
 pub unpack_four-at-requires : goal.unpack_four-at-requires
 unpack_four-at-requires c = room c.loop-rest.invariant _ _ (decoded_on c.loop-rest.rest.now (search rules)) (search rules)

@@ -1,4 +1,4 @@
-use Rattle.std.proofs.Common.{◌≡◌, ◌<◌, length, Some, None, refl, ap, ◌∙◌, arith}
+use Rattle.std.proofs.Common.{◌≡◌, ◌<◌, length, None, refl, ap, ◌∙◌, arith}
 use Rattle.std.proofs.lemmas.Bool.{true≢false}
 use Rattle.event.specs.Numbers.Answer.{did}
 use Rattle.media.specs.Stretches.{left}
@@ -8,25 +8,8 @@ use Rattle.catalogue.proofs.Listings.{free, pushed, room, settled_at}
 use Rattle.catalogue.proofs.catalogues.Catalogue.add.Goals as goal
 use Rattle.catalogue.proofs.catalogues.Catalogue.add.Goals.{In_default-flaw}
 
-pub returns-in-Some-flaw : goal.returns-in-Some-flaw
-returns-in-Some-flaw c =
-    record {
-      lists = settled_at c.args.place (listing (left c.args.self.now.stretch c.args.place)) (listed c.args.self.now) (Some c.in-Some-flaw.refusal) (ends c.args.self.now.stretch.media.now c.in-Some.entry) c.in-Some.ensures c.in-Some-flaw.ensures;
-      same = λ _. refl;
-      over = refl;
-    }
-
 has_room : (c : In_default-flaw) → length (listed c.args.self.now) < 32
 has_room c = room (ends c.args.self.now.stretch.media.now c.in-Some.entry).1 (listed c.args.self.now) c.in_default-flaw.ensures
-
-pub bounds-self-self : goal.bounds-self-self
-bounds-self-self c =
-    free c.args.self.now.stretch.media.now c.args.self.now.entries c.args.self.now.count (omega arith) (has_room (goal.at.bounds-self-self c).In_default-flaw)
-
-pub overflow_add-self : goal.overflow_add-self
-overflow_add-self c =
-    let h = free c.args.self.now.stretch.media.now c.args.self.now.entries c.args.self.now.count (omega arith) (has_room (goal.at.overflow_add-self c).In_default-flaw) in
-    omega arith
 
 pub returns : goal.returns
 returns c =

@@ -1,6 +1,6 @@
 use Rattle.std.proofs.Common.{true, false, map, sym, ap, ◌∙◌}
 use Rattle.catalogue.specs.Catalogues.{named, number, sought}
-use Rattle.catalogue.proofs.Entries.{looks, none_left}
+use Rattle.catalogue.proofs.Entries.{looks}
 use Rattle.catalogue.proofs.catalogues.Catalogue.find.Goals as goal
 
 pub returns-then-is : goal.returns-then-is
@@ -11,8 +11,3 @@ returns-then-is c =
 pub loop-number-preserved : goal.loop-number-preserved
 loop-number-preserved c =
     sym (looks c.args.self.now.stretch.media.now c.entries-entries.result.now _ _ _ _ false c.loop-number-test.true c.pair.ensures c.if-is.ensures) ∙ c.loop-number.invariant
-
-pub returns : goal.returns
-returns c =
-    sym (none_left c.args.self.now.stretch.media.now c.entries-entries.result.now (sought c.args.scheme.now c.args.value.now) c.loop-number.number c.loop-number-test.false) ∙ c.loop-number.invariant ∙
-    ap (λ es. number (sought c.args.scheme.now c.args.value.now) (map (named c.args.self.now.stretch.media.now) es)) c.entries-entries.ensures.value

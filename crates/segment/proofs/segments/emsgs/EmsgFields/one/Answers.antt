@@ -1,10 +1,6 @@
 use Rattle.segment.specs.Emsgs.{names}
-use Rattle.segment.proofs.Closings.{one_from, one_open}
+use Rattle.segment.proofs.Closings.{one_from}
 use Rattle.segment.proofs.segments.emsgs.EmsgFields.one.Goals as goal
-
-pub returns-in_err-names : goal.returns-in_err-names
-returns-in_err-names c =
-    rw c.from_residual.ensures (one_open c.args.bytes.now c.if-bytes-lt20.false c.in_err-names.ensures)
 
 pub returns : goal.returns
 returns c =
