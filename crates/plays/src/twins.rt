@@ -1,12 +1,9 @@
 // The same calls on two players: one tells a record list and plays whole, the other tells a byte log and plays in stops.
 use crate::steps::{Call, Said, arrived, event, in_stream, perform, unused};
-use catalogue::Catalogue;
 use event::{Dispatch, Feed, Mode, Refusal, Sink, StreamCount};
 use layers::Period;
-use media::Stretch;
 use player::{Drawn, Kept, Player, Tables, UsedId};
-use segment::{SegmentReader, Timing};
-use sheet::SheetReader;
+use reader::{Catalogue, SegmentReader, SheetReader, Stretch, Timing};
 use sink::{ByteLog, RecordList, read_log};
 
 // How many records were drawn, and what became of them.

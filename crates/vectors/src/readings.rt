@@ -1,9 +1,6 @@
 // What readers give over short media buffers, beside the values that the formats call for.
-use catalogue::Catalogue;
 use event::{Ending, Event, Feed, Look, Message, Span, Time};
-use media::Stretch;
-use segment::{SegmentReader, Timing};
-use sheet::SheetReader;
+use reader::{Catalogue, SegmentReader, SheetReader, Stretch, Timing};
 use std::process::Abort;
 use std::test::Fail;
 

@@ -1,7 +1,6 @@
 // Stretches that end at every byte of what they hold, buffers at their greatest length, and catalogues that are full.
 use super::{LISTED, ends, listed, plain, segment, sheet};
-use catalogue::Catalogue;
-use media::Stretch;
+use reader::{Catalogue, Stretch};
 use std::test::Fail;
 
 const SHEET: &[u8] =

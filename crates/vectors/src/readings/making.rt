@@ -1,6 +1,6 @@
 // Stretches, timings and catalogues: what is made, and what is refused.
 use super::{counted, listed, stretched, timed};
-use segment::Timing;
+use reader::Timing;
 use std::test::Fail;
 
 // Stretches that are inside the media buffer or not.
