@@ -1,6 +1,6 @@
 use Rattle.std.proofs.Common.{length}
 use Rattle.run.specs.Runs.{left}
-use Rattle.whole_runs.proofs.lines.add_lines.Given as goal
+use Rattle.whole_runs.proofs.reports.add_lines.Given as goal
 
 -- each turn reports one line
 abbrev pub decreases-loop-line : goal.decreases-loop-line
