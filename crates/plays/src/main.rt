@@ -3,6 +3,8 @@
 
 mod feeds;
 #[cfg(test)]
+mod line_tests;
+#[cfg(test)]
 mod scripts;
 mod shows;
 mod steps;
