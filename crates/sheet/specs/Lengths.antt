@@ -1,20 +1,24 @@
 -- Records of a sheet end within its bytes, so that each turn goes forward.
+--   ev_long, es_long   an `EV` record has its 21 bytes and its message, an `ES` record 16 bytes at least, and neither is longer than the bytes that it is read from
+--   goes_forward s     each turn over a sheet goes forward, within the bytes that are left
 use Rattle.std.proofs.Common.{◌≡◌, ℕ, ◌+◌, ◌≤◌, ◌&&◌, eqb, leb, List, length, get_or, take, drop, Some, None, Ok, Err, Option, Result, refl, arith}
 use Rattle.std.proofs.lemmas.List.{length-drop}
 use Rattle.std.proofs.lemmas.Bool.{and_parts, cond_both, leb-true}
 use Rattle.event.specs.declared.events.Event.{Event}
 use Rattle.event.specs.declared.faults.Defect.{Defect}
 use Rattle.event.specs.declared.faults.Defect.TheVariants.{Timescale}
-use Rattle.media.specs.BigEndian.{num16}
+use Rattle.event.specs.BigEndian.{num16}
 use Rattle.media.specs.Readers.{fault}
 use Rattle.media.specs.Timescales.{is_timescale}
 use Rattle.media.specs.Walks.{Forward, Goes}
 use Rattle.media.specs.declared.walks.Turn.TheVariants.{Clean, Broken, Passes}
+use Rattle.catalogue.specs.Catalogues.{listed}
 use Rattle.catalogue.specs.Pairs.{Stream, front, fronted, marked}
 use Rattle.sheet.specs.SheetRecords.{Es, Ev, es_fields, es_record, ev_fields, ev_record, whole}
-use Rattle.sheet.specs.SheetWalks.{ev_gives, ev_turn, read_turn, sheet_turn}
+use Rattle.sheet.specs.SheetWalks.{ev_gives, ev_turn, read_turn, sheet_turn, turns}
 use Rattle.sheet.specs.Sheets.{event_of, opened}
 use Rattle.sheet.specs.declared.sheets.EventStream.{EventStream}
+use Rattle.sheet.specs.declared.sheets.Sheet.{Sheet}
 
 no_record : {X : Type 0} (x : X) (P : Type 0) → Some x ≡ None → P
 no_record x P e = let z : ◌≡◌ {A = ℕ} 0 1 = cc in absurd (omega arith)
@@ -54,6 +58,9 @@ read_forward ts s at n (Some e) q h k =
 read_forward ts s at n None (Some v) h k = ev_forward s at (at + 21) v n (k v refl)
 read_forward ts s at n None None h k = tt
 
-pub sheet_forward : (ts : List Stream) → Forward (sheet_turn ts)
+sheet_forward : (ts : List Stream) → Forward (sheet_turn ts)
 sheet_forward ts s at bs =
     cond_both (eqb (length bs) 0) Clean (read_turn ts s at (es_record bs) (ev_record bs)) (Goes (length bs)) (λ _. tt) (λ _. read_forward ts s at (length bs) (es_record bs) (ev_record bs) (es_long bs) (ev_long bs))
+
+pub goes_forward : (s : Sheet) → Forward (turns s)
+goes_forward s = sheet_forward (listed s.catalogue.now)
