@@ -196,9 +196,9 @@ def proofs():
             if path.name != "Lib.antt":
                 yield str(path.relative_to(ROOT)), f"{kind}, {text.count(chr(10))} lines"
             if path.parent == folder and path.name != "Lib.antt":
-                for m in re.finditer(r"^ *(?:pub )?(?:abbrev )?(?:pub )?([^\s:]+) : ", text, re.M):
+                for m in re.finditer(r"^ *(?:pub )?(?:abbrev )?(?:pub )?([^\s:(]+) : ", text, re.M):
                     word = m.group(1)
-                    own = len(re.findall(rf"^ *(?:pub |abbrev )*{re.escape(word)} ", text, re.M))
+                    own = len(re.findall(rf"^ *(?:pub |abbrev )*{re.escape(word)} (?:: |[^\n]*=(?:\s|$))", text, re.M))
                     if uses[word] <= own:
                         yield place(path, text, m.start()), f"{word}: nothing cites it"
 
