@@ -1,5 +1,11 @@
 -- Boxes end within the bytes of their segment, so that each turn goes forward.
-use Rattle.std.proofs.Common.{◌≡◌, ℕ, ◌+◌, ◌-◌, ◌<◌, ◌≤◌, Bool, true, false, cond, eqb, ltb, leb, List, length, drop, Some, None, Ok, Err, Option, Result, refl, ap, arith}
+--   emsg_fits v bs     a message is no longer than the bytes that it stands in
+--   body_fits z bs     a body is no longer than its box
+--   Usable z n         a box of such a size has bytes, all of them within the n bytes that are left
+--   judged_usable      so it is where a reader finds nothing wrong with it
+--   goes_forward s     each turn over a segment goes forward, within the bytes that are left
+use Rattle.std.proofs.Common.{◌≡◌, ℕ, ◌+◌, ◌-◌, ◌<◌, ◌≤◌, Bool, true, false, is_ok, cond, eqb, ltb, leb, List, length, drop, Some, None, Ok, Err, Option, Result, refl, ap, arith}
+use Rattle.std.specs.List.{position_from}
 use Rattle.std.proofs.lemmas.List.{length-drop}
 use Rattle.std.proofs.lemmas.Bool.{cond_both, eqb-false, ltb-false, or_parts, true≢false}
 use Rattle.event.specs.declared.events.Event.{Event}
@@ -8,14 +14,14 @@ use Rattle.event.specs.declared.faults.Defect.TheVariants.{BoxSize}
 use Rattle.media.specs.Walks.{Forward, Goes}
 use Rattle.media.specs.declared.walks.Turn.TheVariants.{Clean}
 use Rattle.media.proofs.Parts.{part_fits}
+use Rattle.catalogue.specs.Catalogues.{listed}
 use Rattle.catalogue.specs.Pairs.{Stream}
-use Rattle.segment.specs.Boxes.{bad, body, head, judged, kind, size_of, span, typed, version}
-use Rattle.segment.specs.Emsgs.{Emsg, Shut, Texts, emsg_of, one_fields, schemed, shut, shut_at, texts, valued, zero_fields, zero_from}
-use Rattle.segment.specs.SegmentWalks.{box_gives, box_turn, emsg_turn, segment_turn, use_of}
+use Rattle.segment.specs.Boxes.{Judgement, bad, body, head, judged, kind, size_of, span, typed, version}
+use Rattle.segment.specs.Emsgs.{Emsg, Shut, Texts, emsg_of, one_fields, schemed, shut, shut_at, texts, valued, zero_fields}
+use Rattle.segment.specs.SegmentWalks.{box_gives, box_turn, emsg_event, found, segment_turn, turns}
+use Rattle.segment.specs.declared.segments.Segment.{Segment}
 use Rattle.segment.specs.declared.segments.boxes.Size.{Size}
 use Rattle.segment.specs.declared.segments.boxes.Size.TheVariants.{Cut, Plain, Large, Rest}
-use Rattle.segment.specs.declared.segments.boxes.Use.{Use}
-use Rattle.segment.specs.declared.segments.boxes.Use.TheVariants.{Wrong, Other, Reads}
 use Rattle.segment.specs.declared.timings.Timing.{Timing}
 use Rattle.segment.specs.declared.timings.Version.{Version}
 use Rattle.segment.specs.declared.timings.Version.TheVariants.{Zero, One}
@@ -30,7 +36,7 @@ shut_at_fits (Some n) bs s e =
     let r : s.rest ≡ drop (n + 1) bs = cc in omega (arith, ap length r, length-drop (n + 1) bs)
 
 shut_fits : (bs : List ℕ) (s : Shut) → Some s ≡ shut bs → length s.rest ≤ length bs
-shut_fits bs s e = shut_at_fits (zero_from 0 bs) bs s e
+shut_fits bs s e = shut_at_fits (position_from (λ b. eqb b 0) 0 bs) bs s e
 
 valued_fits : (s : Shut) (o : Option Shut) (n : ℕ) (t : Texts) → ((v : Shut) → Some v ≡ o → length v.rest ≤ n) → Some t ≡ valued s o → length t.rest ≤ n
 valued_fits s None n t h e = none_such t (length t.rest ≤ n) e
@@ -83,34 +89,28 @@ usable (Large m) n h e =
 usable Rest n h e = record { some = h; fits = omega arith }
 
 -- a reader that steps over a box, or reads it, has found its size good
-good : (b : Bool) (u w : Use) → ((d : Defect) → u ≡ Wrong d → ⊥) → u ≡ cond b (Wrong BoxSize) w → b ≡ false
-good true u w f e = absurd (f BoxSize e)
-good false u w f e = refl
+good : (b : Bool) (u : Option Version) (j : Judgement) → Ok u ≡ cond b (Err BoxSize) j → b ≡ false
+good true u j e = absurd (true≢false (ap is_ok e))
+good false u j e = refl
 
-pub other_usable : (z : Size) (n : ℕ) (k v : Option ℕ) → 0 < n → Other ≡ judged z n k v → Usable z n
-other_usable z n k v h e =
-    usable z n h (good (bad z n) Other (typed k v) (λ d q. let x : ◌≡◌ {A = ℕ} 0 1 = cc in omega arith) e)
-
-pub reads_usable : (z : Size) (n : ℕ) (k v : Option ℕ) (w : Version) → 0 < n → Reads w ≡ judged z n k v → Usable z n
-reads_usable z n k v w h e =
-    usable z n h (good (bad z n) (Reads w) (typed k v) (λ d q. let x : ◌≡◌ {A = ℕ} 0 1 = cc in omega arith) e)
+pub judged_usable : (z : Size) (n : ℕ) (k v : Option ℕ) (u : Option Version) → 0 < n → Ok u ≡ judged z n k v → Usable z n
+judged_usable z n k v u h e = usable z n h (good (bad z n) u (typed k v) e)
 
 gives_forward : (at k n : ℕ) (r : Result Event Defect) → 0 < k → k ≤ n → Goes n (box_gives at k r)
 gives_forward at k n (Ok e) lo hi = (lo, hi)
 gives_forward at k n (Err d) lo hi = tt
 
-emsg_forward : (ts : List Stream) (t : Timing) (v : Version) (at k n : ℕ) (o : Option Emsg) → 0 < k → k ≤ n → Goes n (emsg_turn ts t v at k o)
-emsg_forward ts t v at k n None lo hi = tt
-emsg_forward ts t v at k n (Some e) lo hi = gives_forward at k n _ lo hi
+box_forward : (ts : List Stream) (t : Timing) (at : ℕ) (z : Size) (bs : List ℕ) (k v : Option ℕ) (j : Judgement) → 0 < length bs → j ≡ judged z (length bs) k v → Goes (length bs) (box_turn ts t at z bs j)
+box_forward ts t at z bs k v (Err d) h e = tt
+box_forward ts t at z bs k v (Ok None) h e = let s = judged_usable z (length bs) k v None h e in (s.some, s.fits)
+box_forward ts t at z bs k v (Ok (Some w)) h e =
+    let s = judged_usable z (length bs) k v (Some w) h e in
+    gives_forward at (span z (length bs)) (length bs) (emsg_event ts t (at + span z (length bs)) (emsg_of w (drop 4 (body z bs)))) s.some s.fits
 
-box_forward : (ts : List Stream) (t : Timing) (at : ℕ) (z : Size) (bs : List ℕ) (k v : Option ℕ) (u : Use) → 0 < length bs → u ≡ judged z (length bs) k v → Goes (length bs) (box_turn ts t at z bs u)
-box_forward ts t at z bs k v (Wrong d) h e = tt
-box_forward ts t at z bs k v Other h e = let s = other_usable z (length bs) k v h e in (s.some, s.fits)
-box_forward ts t at z bs k v (Reads w) h e =
-    let s = reads_usable z (length bs) k v w h e in
-    emsg_forward ts t w at (span z (length bs)) (length bs) (emsg_of w (drop 4 (body z bs))) s.some s.fits
-
-pub segment_forward : (ts : List Stream) (t : Timing) → Forward (segment_turn ts t)
+segment_forward : (ts : List Stream) (t : Timing) → Forward (segment_turn ts t)
 segment_forward ts t s at bs =
-    cond_both (eqb (length bs) 0) Clean (box_turn ts t at (size_of bs) bs (use_of bs)) (Goes (length bs)) (λ _. tt)
-    (λ h. let ne = eqb-false (length bs) 0 h in box_forward ts t at (size_of bs) bs (kind bs) (version (body (size_of bs) bs)) (use_of bs) (omega arith) refl)
+    cond_both (eqb (length bs) 0) Clean (box_turn ts t at (size_of bs) bs (found bs)) (Goes (length bs)) (λ _. tt)
+    (λ h. let ne = eqb-false (length bs) 0 h in box_forward ts t at (size_of bs) bs (kind bs) (version (body (size_of bs) bs)) (found bs) (omega arith) refl)
+
+pub goes_forward : (s : Segment) → Forward (turns s)
+goes_forward s = segment_forward (listed s.catalogue.now) s.timing
