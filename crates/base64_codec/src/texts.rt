@@ -1,20 +1,23 @@
 // Which texts are base64.
-ghost use Rattle.std.specs.Prelude.{◌≡◌};
-ghost use Rattle.base64_codec.specs.Texts.{accepted, full, padded};
+ghost use Rattle.std.specs.Prelude.{◌≡◌, ◌&&◌, ◌||◌};
+ghost use Rattle.std.specs.List.{list_all};
+ghost use Rattle.base64_codec.specs.Texts.{accepted, full, of_four, padded};
 
 use crate::alphabet::value;
 
 // Whether four characters are of the alphabet.
-fn is_full(a: u8, b: u8, c: u8, d: u8) -> bool
-    ensures { result ≡ full a b c d }
+fn is_full(four: &[u8; 4]) -> bool
+    ensures { result ≡ of_four full four.now }
 {
+    let [a, b, c, d] = *four;
     value(a) < 64 && value(b) < 64 && value(c) < 64 && value(d) < 64
 }
 
 // Whether four characters may end a text with padding.
-fn is_padded(a: u8, b: u8, c: u8, d: u8) -> bool
-    ensures { result ≡ padded a b c d }
+fn is_padded(four: &[u8; 4]) -> bool
+    ensures { result ≡ of_four padded four.now }
 {
+    let [a, b, c, d] = *four;
     if value(a) >= 64 || value(b) >= 64 || d != b'=' {
         return false;
     }
@@ -25,16 +28,30 @@ fn is_padded(a: u8, b: u8, c: u8, d: u8) -> bool
     }
 }
 
+// Whether all of some fours are of the alphabet.
+fn are_full(fours: &[[u8; 4]]) -> bool
+    ensures { result ≡ list_all (of_four full) fours.now }
+{
+    fours.iter().all(is_full)
+}
+
+// Whether fours may make a text: the last may be padded, and those before it are of the alphabet.
+fn make_text(before: &[[u8; 4]], last: &[u8; 4]) -> bool
+    ensures { let whole = of_four full last.now in result ≡ (list_all (of_four full) before.now && (whole || of_four padded last.now)) }
+{
+    are_full(before) && (is_full(last) || is_padded(last))
+}
+
 // Whether a text is base64.
 pub fn is_text(text: &[u8]) -> bool
     ensures { result ≡ accepted text.now }
 {
-    let mut rest = text;
-    while let [a, b, c, d, more @ ..] = rest {
-        if !is_full(*a, *b, *c, *d) {
-            return more.is_empty() && is_padded(*a, *b, *c, *d);
-        }
-        rest = more;
+    let (fours, rest) = text.as_chunks::<4>();
+    if !rest.is_empty() {
+        return false;
     }
-    rest.is_empty()
+    match fours.split_last() {
+        None => true,
+        Some((last, before)) => make_text(before, last),
+    }
 }
