@@ -1,10 +1,11 @@
 // From text to bytes.
-ghost use Rattle.std.specs.Prelude.{◌≡◌, ◌≤◌, true, length};
+ghost use Rattle.std.specs.Prelude.{◌≡◌, ◌≤◌, ◌||◌, true, length};
 ghost use Rattle.event.specs.Fronts.{front};
 ghost use Rattle.event.specs.Numbers.{answer};
+ghost use Rattle.base64_codec.specs.Alphabet.{value};
 ghost use Rattle.base64_codec.specs.Calls.{decodes};
 ghost use Rattle.base64_codec.specs.Laws.{Exact, Restored};
-ghost use Rattle.base64_codec.specs.Texts.{accepted, decoded, group, joined, octets, of_four};
+ghost use Rattle.base64_codec.specs.Texts.{accepted, decoded, full, group, joined, known, octets, of_four, padded};
 
 use crate::alphabet::value;
 use crate::fronts::put;
@@ -21,19 +22,28 @@ fn three(numbers: [u8; 4]) -> [u8; 3]
     [x, y, z]
 }
 
+// The number of a character of the alphabet.
+fn bits(c: u8) -> u8
+    requires { known c ≡ true }
+    ensures { result ≡ value c }
+{
+    value(c).unwrap()
+}
+
 // Writes the bytes of four characters to the front of `out`.
 fn unpack_four(four: &[u8; 4], out: &mut [u8])
-    requires { length (of_four group four.now) ≤ length out.old }
+    requires base64 { (of_four full four.now || of_four padded four.now) ≡ true }
+    requires room { length (of_four group four.now) ≤ length out.old }
     ensures { out.new ≡ front (of_four group four.now) out.old }
 {
     let [a, b, c, d] = *four;
     if d != b'=' {
-        put(three([value(a), value(b), value(c), value(d)]), out);
+        put(three([bits(a), bits(b), bits(c), bits(d)]), out);
     } else if c != b'=' {
-        let [x, y, _] = three([value(a), value(b), value(c), 0]);
+        let [x, y, _] = three([bits(a), bits(b), bits(c), 0]);
         put([x, y], out);
     } else {
-        let [x, _, _] = three([value(a), value(b), 0, 0]);
+        let [x, _, _] = three([bits(a), bits(b), 0, 0]);
         put([x], out);
     }
 }
@@ -72,7 +82,7 @@ pub fn decode(text: &[u8], out: &mut [u8]) -> Result<usize, Refusal>
     ensures exact { Exact text.now }
 {
     if !is_text(text) {
-        return Err(Refusal::Unreadable(Defect::NotBase64));
+        return Err(Defect::NotBase64.into());
     }
     let count = decoded_len(text);
     if out.len() < count {

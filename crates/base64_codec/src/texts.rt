@@ -10,7 +10,7 @@ fn is_full(four: &[u8; 4]) -> bool
     ensures { result ≡ of_four full four.now }
 {
     let [a, b, c, d] = *four;
-    value(a) < 64 && value(b) < 64 && value(c) < 64 && value(d) < 64
+    value(a).is_some() && value(b).is_some() && value(c).is_some() && value(d).is_some()
 }
 
 // Whether four characters may end a text with padding.
@@ -18,13 +18,10 @@ fn is_padded(four: &[u8; 4]) -> bool
     ensures { result ≡ of_four padded four.now }
 {
     let [a, b, c, d] = *four;
-    if value(a) >= 64 || value(b) >= 64 || d != b'=' {
-        return false;
-    }
-    if c == b'=' {
-        value(b) % 16 == 0
-    } else {
-        value(c) < 64 && value(c) % 4 == 0
+    match (value(a), value(b)) {
+        (Some(_), Some(second)) if c == b'=' && d == b'=' => second % 16 == 0,
+        (Some(_), Some(_)) if d == b'=' => value(c).is_some_and(|third| third % 4 == 0),
+        _ => false,
     }
 }
 
@@ -37,7 +34,7 @@ fn are_full(fours: &[[u8; 4]]) -> bool
 
 // Whether fours may make a text: the last may be padded, and those before it are of the alphabet.
 fn make_text(before: &[[u8; 4]], last: &[u8; 4]) -> bool
-    ensures { let whole = of_four full last.now in result ≡ (list_all (of_four full) before.now && (whole || of_four padded last.now)) }
+    ensures { result ≡ (list_all (of_four full) before.now && (of_four full last.now || of_four padded last.now)) }
 {
     are_full(before) && (is_full(last) || is_padded(last))
 }

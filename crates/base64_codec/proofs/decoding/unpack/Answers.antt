@@ -1,5 +1,5 @@
 use Rattle.std.proofs.Common.{rules, arith}
-use Rattle.base64_codec.proofs.Unpacking.{starts, fits, goes, unpacked}
+use Rattle.base64_codec.proofs.Unpacking.{starts, fits, goes, unpacked, valid_four}
 use Rattle.base64_codec.proofs.decoding.unpack.Goals as goal
 
 pub slice_bounds-unpack_four-count : goal.slice_bounds-unpack_four-count
@@ -11,7 +11,10 @@ slice_bounds-unpack_four-start c =
     search rules
 
 pub unpack_four-requires : goal.unpack_four-requires
-unpack_four-requires c = fits c.loop-n.invariant _ c.as_chunks.ensures.front (search rules) (search rules)
+unpack_four-requires c = record {
+  base64 = valid_four c.loop-n.invariant _ c.as_chunks.ensures.front (search rules);
+  room = fits c.loop-n.invariant _ c.as_chunks.ensures.front (search rules) (search rules);
+}
 
 pub loop-n-preserved : goal.loop-n-preserved
 loop-n-preserved c = goes c.loop-n.invariant _ c.as_chunks.ensures.front (search rules) _ (search rules) c.unpack_four.ensures
