@@ -1,5 +1,5 @@
 -- Writing a list to the front of another, part after part.
-use Rattle.std.proofs.Common.{◌≡◌, ℕ, ◌+◌, ◌-◌, ◌≤◌, List, [], ◌++◌, length, take, drop, sym, refl, ap, ◌∙◌, subst, append_assoc, append-nil, arith}
+use Rattle.std.proofs.Common.{◌≡◌, ℕ, ◌+◌, ◌-◌, ◌≤◌, List, [], ◌++◌, length, take, drop, sym, ap, ◌∙◌, subst, append_assoc, append-nil, arith}
 use borrow.Rule.Slice.PartMut.{put_mid}
 use Rattle.std.proofs.lemmas.List.{length-append, length-drop, length-take-le, take_rest, take-append-drop, take_at, drop_at, drop-drop, drop_all}
 use Rattle.event.specs.Fronts.{front}
@@ -9,9 +9,6 @@ pub record Filling (whole todo first out : List ℕ) (at : ℕ) : Type 0 where
   pub written : take at out ++ todo ≡ whole
   pub behind : drop at out ≡ drop at first
   pub within : at ≤ length out
-
-pub start : (whole first : List ℕ) → Filling whole whole first first 0
-start whole first = record { written = refl; behind = refl; within = omega arith }
 
 module _ {whole todo first out : List ℕ} {at : ℕ} (h : Filling whole todo first out at) where
   pub done : todo ≡ [] → out ≡ front whole first
@@ -46,12 +43,15 @@ module _ {whole todo first out : List ℕ} {at : ℕ} (h : Filling whole todo fi
         within = simp (length-append, length-drop) (omega (arith, front_long, h.within, length-drop at out));
       }
 
-  -- the part that starts at at has become ys, with n more of whole in front
-  pub next : (xs more ys : List ℕ) (n : ℕ) → todo ≡ xs ++ more → length whole ≤ length out → ys ≡ front xs left → n ≡ length xs → Filling whole more first (put_mid at (length out - at) out ys) (at + n)
-  next xs more ys n e fits is long =
+  pub sum : at + length todo ≡ length whole
+  sum = let long = length-take-le at out h.within in omega (arith, long, length-append (take at out) todo, ap length h.written)
+
+  -- the part that starts at at has become ys, with which whole is written up to to
+  pub next : (xs more ys : List ℕ) (to : ℕ) → todo ≡ xs ++ more → length whole ≤ length out → ys ≡ front xs left → to ≡ at + length xs → Filling whole more first (put_mid at (length out - at) out ys) to
+  next xs more ys to e fits is long =
       let all : left ≡ drop at out = take_rest out at in
       let gone : drop (length out - at) (drop at out) ≡ [] = drop_all (length out - at) (drop at out) (omega (arith, length-drop at out)) in
       let goes : Filling whole more first (more_out xs) (at + length xs) = step xs more e (subst (λ l. length xs ≤ length l) all (room xs more e fits)) in
       let tail : xs ++ drop (length xs) (drop at out) ≡ ys = ap (λ l. xs ++ drop (length xs) l) (sym all) ∙ sym is in
       let same : more_out xs ≡ put_mid at (length out - at) out ys = ap (λ l. take at out ++ l) (sym (append-nil _) ∙ (λ i. tail i ++ sym gone i)) in
-      subst (λ l. Filling whole more first l (at + n)) same (subst (λ m. Filling whole more first (more_out xs) (at + m)) (sym long) goes)
+      subst (λ l. Filling whole more first l to) same (subst (Filling whole more first (more_out xs)) (sym long) goes)

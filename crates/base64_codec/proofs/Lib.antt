@@ -4,4 +4,5 @@ pub mod Filling
 pub mod Fours
 pub mod Restoring
 pub mod Sizes
+pub mod Unpacking
 pub mod Undoing

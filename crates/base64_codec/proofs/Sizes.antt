@@ -15,7 +15,7 @@ sized_by true true l m n p q r = omega arith
 sized_by true false l m n p q r = omega arith
 sized_by false y l m n p q r = omega arith
 
-three : (a b c d : ℕ) → full a b c d ≡ true → length (group a b c d) ≡ 3
+pub three : (a b c d : ℕ) → full a b c d ≡ true → length (group a b c d) ≡ 3
 three a b c d f = ap length (cond-false _ _ _ (unpadded d (grind (arith))))
 
 last : (n : ℕ) → suc (suc (suc (suc (suc (suc n))))) - 1 ≡ suc (suc (suc (suc (suc (suc n) - 1))))

@@ -1,5 +1,6 @@
 -- Decoding undoes encoding.
-use Rattle.std.proofs.Common.{◌≡◌, ℕ, ◌/◌, ◌%◌, ◌<◌, true, false, eqb, List, [], ◌∷◌, ◌++◌, sym, refl, ap, ◌∙◌, arith}
+use Rattle.std.proofs.Common.{◌≡◌, ℕ, ◌/◌, ◌%◌, ◌<◌, true, false, eqb, List, [], ◌∷◌, ◌++◌, get_or, sym, refl, ap, ◌∙◌, Fits, w8, arith}
+use Rattle.std.proofs.ByRecursion.{All-from_get_or}
 use Rattle.std.proofs.lemmas.Bool.{cond-false, eq-eqb, lt-ltb}
 use Rattle.std.specs.List.{AllByRecursion}
 use Rattle.base64_codec.specs.Alphabet.{digit, padding, value}
@@ -89,3 +90,7 @@ undone (a ∷ b ∷ c ∷ rest) h =
       sym (goes_on_lem _ _ _ _ (encoded rest) (full_digits n)) ∙ ih.0,
       (λ i. (group_digits n small ∙ bytes_packed a b c h.0 h.1.0 h.1.1.0) i ++ ih.1 i),
     )
+
+-- the same of a slice's bytes, each of which fits in eight bits
+pub undone_all : (bs : List ℕ) → ((i : ℕ) → Fits w8 (get_or bs i 0)) → Undone bs
+undone_all bs fits = undone bs (All-from_get_or Byte bs 0 (λ i _. (fits i).fits))

@@ -1,6 +1,7 @@
 // The characters and the numbers that they stand for.
-ghost use Rattle.std.specs.Prelude.{◌≡◌, ◌%◌};
+ghost use Rattle.std.specs.Prelude.{◌≡◌, ◌%◌, if◌then◌else◌, Some, None};
 ghost use Rattle.base64_codec.specs.Alphabet.{digit, value};
+ghost use Rattle.base64_codec.specs.Texts.{known};
 
 // What each character stands for, sixteen to a row: 64, an @, where it is not of the alphabet.
 const VALUES: &[u8; 256] = b"\
@@ -25,11 +26,19 @@ const VALUES: &[u8; 256] = b"\
 // The alphabet, in order.
 const ALPHABET: &[u8; 64] = b"ABCDEFGHIJKLMNOPQRSTUVWXYZabcdefghijklmnopqrstuvwxyz0123456789+/";
 
-// The value of a character.
-pub(crate) fn value(c: u8) -> u8
+// What the table lists for a character.
+fn listed(c: u8) -> u8
     ensures { result ≡ value c }
 {
     VALUES[c as usize]
+}
+
+// The value of a character, if it is of the alphabet.
+pub(crate) fn value(c: u8) -> Option<u8>
+    ensures { result ≡ (if known c then Some (value c) else None) }
+{
+    let value = listed(c);
+    (value < 64).then_some(value)
 }
 
 // The character that stands for the low six bits of a number.

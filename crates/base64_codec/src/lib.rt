@@ -4,6 +4,7 @@
 mod alphabet;
 mod decoding;
 mod encoding;
+mod fronts;
 mod texts;
 
 pub use decoding::decode;

@@ -1,40 +1,54 @@
 // Which texts are base64.
-ghost use Rattle.std.specs.Prelude.{◌≡◌};
-ghost use Rattle.base64_codec.specs.Texts.{accepted, full, padded};
+ghost use Rattle.std.specs.Prelude.{◌≡◌, ◌&&◌, ◌||◌};
+ghost use Rattle.std.specs.List.{list_all};
+ghost use Rattle.base64_codec.specs.Texts.{accepted, full, of_four, padded};
 
 use crate::alphabet::value;
 
 // Whether four characters are of the alphabet.
-fn is_full(a: u8, b: u8, c: u8, d: u8) -> bool
-    ensures { result ≡ full a b c d }
+fn is_full(four: &[u8; 4]) -> bool
+    ensures { result ≡ of_four full four.now }
 {
-    value(a) < 64 && value(b) < 64 && value(c) < 64 && value(d) < 64
+    let [a, b, c, d] = *four;
+    value(a).is_some() && value(b).is_some() && value(c).is_some() && value(d).is_some()
 }
 
 // Whether four characters may end a text with padding.
-fn is_padded(a: u8, b: u8, c: u8, d: u8) -> bool
-    ensures { result ≡ padded a b c d }
+fn is_padded(four: &[u8; 4]) -> bool
+    ensures { result ≡ of_four padded four.now }
 {
-    if value(a) >= 64 || value(b) >= 64 || d != b'=' {
-        return false;
+    let [a, b, c, d] = *four;
+    match (value(a), value(b)) {
+        (Some(_), Some(second)) if c == b'=' && d == b'=' => second % 16 == 0,
+        (Some(_), Some(_)) if d == b'=' => value(c).is_some_and(|third| third % 4 == 0),
+        _ => false,
     }
-    if c == b'=' {
-        value(b) % 16 == 0
-    } else {
-        value(c) < 64 && value(c) % 4 == 0
-    }
+}
+
+// Whether all of some fours are of the alphabet.
+fn are_full(fours: &[[u8; 4]]) -> bool
+    ensures { result ≡ list_all (of_four full) fours.now }
+{
+    fours.iter().all(is_full)
+}
+
+// Whether fours may make a text: the last may be padded, and those before it are of the alphabet.
+fn make_text(before: &[[u8; 4]], last: &[u8; 4]) -> bool
+    ensures { result ≡ (list_all (of_four full) before.now && (of_four full last.now || of_four padded last.now)) }
+{
+    are_full(before) && (is_full(last) || is_padded(last))
 }
 
 // Whether a text is base64.
 pub fn is_text(text: &[u8]) -> bool
     ensures { result ≡ accepted text.now }
 {
-    let mut rest = text;
-    while let [a, b, c, d, more @ ..] = rest {
-        if !is_full(*a, *b, *c, *d) {
-            return more.is_empty() && is_padded(*a, *b, *c, *d);
-        }
-        rest = more;
+    let (fours, rest) = text.as_chunks::<4>();
+    if !rest.is_empty() {
+        return false;
     }
-    rest.is_empty()
+    match fours.split_last() {
+        None => true,
+        Some((last, before)) => make_text(before, last),
+    }
 }

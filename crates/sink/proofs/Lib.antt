@@ -2,7 +2,7 @@ mod Digits
 mod Filling
 mod Found
 mod Growth
-mod LaidOut
+mod Numbers
 mod Parts
 mod Slots
 mod Undone

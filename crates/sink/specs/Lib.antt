@@ -1,4 +1,3 @@
-pub mod BigEndian
 pub mod Lists
 pub mod Logs
 pub mod Readable

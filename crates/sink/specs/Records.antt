@@ -21,7 +21,7 @@ use Rattle.event.specs.declared.faults.Defect.TheVariants.{CutRecord, Flags, Pas
 use Rattle.event.specs.declared.modes.Trigger.{Trigger}
 use Rattle.event.specs.declared.modes.Trigger.TheVariants.{Receive, Start}
 use Rattle.event.specs.declared.times.Time.{Time}
-use Rattle.sink.specs.BigEndian.{num32, num64, bytes32, bytes64}
+use Rattle.event.specs.BigEndian.{num32, num64, bytes32, bytes64}
 use Rattle.sink.specs.declared.records.Record.{Record}
 
 abbrev pub laid : Record → List ℕ

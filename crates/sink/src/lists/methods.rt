@@ -23,7 +23,7 @@ impl<'a> RecordList<'a> {
         ensures { result.now ≡ (held_in self.now).told }
     {
         let slots = &*self.slots;
-        &slots[0..self.count.min(slots.len())]
+        &slots[..self.count.min(slots.len())]
     }
 }
 

@@ -11,6 +11,7 @@ ghost use Rattle.sink.specs.Records.{laid, record_of};
 
 use super::ByteLog;
 use super::pages::Page;
+use crate::records::methods::SIZE;
 use event::{Dispatch, Refusal, Sink};
 
 impl<'a> ByteLog<'a> {
@@ -39,7 +40,7 @@ impl<'a> Sink for ByteLog<'a> {
     ghost held = { held_in_log };
 
     fn free_places(&self) -> usize {
-        (self.page.bytes.len() - 40 * self.page.count) / 40
+        (self.page.bytes.len() - SIZE * self.page.count) / SIZE
     }
 
     fn tell(&mut self, dispatch: Dispatch) -> Result<(), Refusal>

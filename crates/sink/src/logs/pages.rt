@@ -5,7 +5,7 @@ ghost use Rattle.sink.specs.Readable.{used};
 ghost use Rattle.sink.specs.Reading.{dispatches, read_log};
 ghost use Rattle.sink.specs.Records.{laid, record_of};
 
-use crate::records::methods::written;
+use crate::records::methods::{SIZE, written};
 use event::Dispatch;
 
 // The bytes, and how many records stand at their front.
@@ -22,7 +22,7 @@ impl<'a> Page<'a> {
         ensures { result.now ≡ used self.now.count self.now.bytes.now }
     {
         let bytes = &*self.bytes;
-        &bytes[0..40 * self.count]
+        &bytes[..SIZE * self.count]
     }
 
     // Puts the record of a dispatch behind the others.
@@ -35,8 +35,8 @@ impl<'a> Page<'a> {
         ensures reads { read_log (used self.new.count self.new.bytes.now) ≡ Ok (dispatches (read_log (used self.old.count self.old.bytes.now)) ++ dispatch ∷ []) }
         ensures lender { self.new.bytes.ghost_name ≡ self.old.bytes.ghost_name }
     {
-        let at = 40 * self.count;
-        self.bytes[at..at + 40].copy_from_slice(&written(dispatch));
+        let at = SIZE * self.count;
+        self.bytes[at..at + SIZE].copy_from_slice(&written(dispatch));
         self.count += 1;
     }
 }

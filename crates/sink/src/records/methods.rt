@@ -1,6 +1,5 @@
 // From a dispatch to the 40 bytes of its record, and back.
-ghost use Rattle.std.specs.Prelude.{◌≡◌, ◌+◌, ◌<◌, ◌≤◌, length, if◌then◌else◌, Some, None, Ok};
-ghost use Rattle.sink.specs.BigEndian.{num32, num64};
+ghost use Rattle.std.specs.Prelude.{◌≡◌, if◌then◌else◌, Some, None, Ok};
 ghost use Rattle.sink.specs.Records.{laid, marked, record_at, has, flags_of, record_of, flagged, in_time, dispatch_in, checked, read_record};
 
 use super::Record;
@@ -17,79 +16,40 @@ const BASE64: u8 = 4;
 
 const ON_START: u8 = 8;
 
-// The number of the four bytes from `at` on.
-fn u32_at(bytes: &[u8], at: usize) -> u32
-    requires { at + 4 ≤ length bytes.now }
-    ensures { result ≡ num32 bytes.now at }
-{
-    u32::from_be_bytes([bytes[at], bytes[at + 1], bytes[at + 2], bytes[at + 3]])
-}
-
-// The number of the eight bytes from `at` on.
-fn u64_at(bytes: &[u8], at: usize) -> u64
-    requires { at + 8 ≤ length bytes.now }
-    ensures { result ≡ num64 bytes.now at }
-{
-    u64::from_be_bytes([
-        bytes[at],
-        bytes[at + 1],
-        bytes[at + 2],
-        bytes[at + 3],
-        bytes[at + 4],
-        bytes[at + 5],
-        bytes[at + 6],
-        bytes[at + 7],
-    ])
-}
-
-// The bit of a flag that is set, else 0.
-fn flag(set: bool, bit: u8) -> u8
-    ensures { result ≡ (if set then bit else 0) }
-{
-    if set { bit } else { 0 }
-}
-
 // Which fields the dispatch has, and what it was told on.
 fn flags(dispatch: Dispatch) -> u8
     ensures { result ≡ flags_of dispatch }
 {
-    let on_start = match dispatch.trigger {
-        Trigger::Receive => false,
-        Trigger::Start => true,
-    };
-    flag(dispatch.span.duration.is_some(), KNOWN)
-        | flag(dispatch.id.is_some(), NAMED)
-        | flag(dispatch.message.base64, BASE64)
-        | flag(on_start, ON_START)
+    KNOWN * u8::from(dispatch.span.duration.is_some())
+        | NAMED * u8::from(dispatch.id.is_some())
+        | BASE64 * u8::from(dispatch.message.base64)
+        | ON_START * u8::from(dispatch.trigger == Trigger::Start)
 }
 
-impl Record {
+impl From<Dispatch> for Record {
+    ghost from_gives = { λ d r. (r ≡ record_of d) × (checked r ≡ Ok d) };
+
     // The record of a dispatch.
-    fn of(dispatch: Dispatch) -> Record
-        ensures value { result ≡ record_of dispatch }
-        ensures undone { checked result ≡ Ok dispatch }
-    {
-        let duration = match dispatch.span.duration {
-            Some(duration) => duration.ms(),
-            None => 0,
-        };
+    fn from(dispatch: Dispatch) -> Record {
         Record {
             flags: flags(dispatch),
             stream: dispatch.stream,
             position: dispatch.position.ms(),
             start: dispatch.span.start.ms(),
-            duration,
+            duration: dispatch.span.duration.map_or(0, |duration| duration.ms()),
             id: dispatch.id.unwrap_or(0),
             place: dispatch.message.place,
             length: dispatch.message.length,
         }
     }
+}
 
+impl Record {
     // Its bytes.
-    fn bytes(self) -> [u8; 40]
+    fn bytes(self) -> [u8; SIZE]
         ensures { result ≡ laid self }
     {
-        let mut bytes = [0; 40];
+        let mut bytes = [0; SIZE];
         bytes[0..4].copy_from_slice(&[b'D', b'L', self.flags, self.stream]);
         bytes[4..12].copy_from_slice(&self.position.to_be_bytes());
         bytes[12..20].copy_from_slice(&self.start.to_be_bytes());
@@ -104,19 +64,25 @@ impl Record {
     fn at(bytes: &[u8]) -> Option<Record>
         ensures { result ≡ (if marked bytes.now then Some (record_at bytes.now) else None) }
     {
-        match bytes {
-            [b'D', b'L', flags, stream, ..] if bytes.len() >= SIZE => Some(Record {
-                flags: *flags,
-                stream: *stream,
-                position: u64_at(bytes, 4),
-                start: u64_at(bytes, 12),
-                duration: u64_at(bytes, 20),
-                id: u32_at(bytes, 28),
-                place: u32_at(bytes, 32),
-                length: u32_at(bytes, 36),
-            }),
-            _ => None,
-        }
+        let [b'D', b'L', flags, stream, rest @ ..] = bytes else {
+            return None;
+        };
+        let (position, rest) = rest.split_first_chunk::<8>()?;
+        let (start, rest) = rest.split_first_chunk::<8>()?;
+        let (duration, rest) = rest.split_first_chunk::<8>()?;
+        let (id, rest) = rest.split_first_chunk::<4>()?;
+        let (place, rest) = rest.split_first_chunk::<4>()?;
+        let (length, _) = rest.split_first_chunk::<4>()?;
+        Some(Record {
+            flags: *flags,
+            stream: *stream,
+            position: u64::from_be_bytes(*position),
+            start: u64::from_be_bytes(*start),
+            duration: u64::from_be_bytes(*duration),
+            id: u32::from_be_bytes(*id),
+            place: u32::from_be_bytes(*place),
+            length: u32::from_be_bytes(*length),
+        })
     }
 
     // Whether a flag is set.
@@ -155,25 +121,25 @@ impl Record {
                 Trigger::Receive
             },
             stream: self.stream,
-            id: if self.has(NAMED) { Some(self.id) } else { None },
+            id: self.has(NAMED).then_some(self.id),
             span: Span {
                 start,
-                duration: if self.has(KNOWN) {
-                    Some(duration)
-                } else {
-                    None
-                },
+                duration: self.has(KNOWN).then_some(duration),
             },
             message,
         })
     }
+}
+
+impl TryFrom<Record> for Dispatch {
+    type Error = Defect;
+
+    ghost try_from_gives = { λ r d. d ≡ checked r };
 
     // The dispatch, or what is wrong with the record.
-    fn checked(self) -> Result<Dispatch, Defect>
-        ensures { result ≡ checked self }
-    {
-        if self.is_flagged() {
-            self.dispatch().ok_or(Defect::PastLatest)
+    fn try_from(record: Record) -> Result<Dispatch, Defect> {
+        if record.is_flagged() {
+            record.dispatch().ok_or(Defect::PastLatest)
         } else {
             Err(Defect::Flags)
         }
@@ -181,19 +147,17 @@ impl Record {
 }
 
 // The bytes of a dispatch's record: reading them gives the dispatch back.
-pub(crate) fn written(dispatch: Dispatch) -> [u8; 40]
+pub(crate) fn written(dispatch: Dispatch) -> [u8; SIZE]
     ensures value { result ≡ laid (record_of dispatch) }
     ensures undone { read_record result ≡ Ok dispatch }
 {
-    Record::of(dispatch).bytes()
+    Record::from(dispatch).bytes()
 }
 
 // The dispatch at the front of bytes, or what is wrong there.
 pub(crate) fn read_record(bytes: &[u8]) -> Result<Dispatch, Defect>
     ensures { result ≡ read_record bytes.now }
 {
-    match Record::at(bytes) {
-        Some(record) => record.checked(),
-        None => Err(Defect::CutRecord),
-    }
+    let record = Record::at(bytes).ok_or(Defect::CutRecord)?;
+    Dispatch::try_from(record)
 }

@@ -5,6 +5,3 @@ use Rattle.base64_codec.proofs.decoding.decoded_len.Goals as goal
 
 pub overflow_sub-result : goal.overflow_sub-result
 overflow_sub-result c = let s = sized c.args.text.now c.requires in grind (arith, nat_tests)
-
-pub returns : goal.returns
-returns c = let s = sized c.args.text.now c.requires in grind (arith, nat_tests)

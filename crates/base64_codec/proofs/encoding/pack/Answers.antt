@@ -1,14 +1,18 @@
-use Rattle.std.proofs.Common.{refl, ap, ◌∙◌, rules}
+use Rattle.std.proofs.Common.{[], get_or, ap, ◌∙◌, arith, rules}
 use Rattle.event.specs.Fronts.{front}
+use Rattle.base64_codec.specs.Texts.{digits, of_three, packed}
 use Rattle.base64_codec.proofs.Filling.{left, room, next}
-use Rattle.base64_codec.proofs.Fours.{digits_front, encoded_on}
+use Rattle.base64_codec.proofs.Fours.{encoded_on}
 use Rattle.base64_codec.proofs.encoding.pack.Goals as goal
 
 pub put-requires : goal.put-requires
 put-requires c =
-    room c.loop-rest.invariant (digits_front c.loop-rest.rest.now) _ (encoded_on c.loop-rest.rest.now (search rules)) (search rules)
+    let on = encoded_on c.args.bytes.now _ c.loop-n.n c.as_chunks.ensures.front (search rules) in
+    (search rules, room c.loop-n.invariant (digits (of_three packed (get_or c.as_chunks.result.0.now c.loop-n.n []))) _ on (search rules))
 
-pub loop-rest-preserved : goal.loop-rest-preserved
-loop-rest-preserved c =
-    next c.loop-rest.invariant (digits_front c.loop-rest.rest.now) _ _ 4 (encoded_on c.loop-rest.rest.now (search rules)) (search rules)
-    (c.put.ensures ∙ ap (λ l. front l (left c.loop-rest.invariant)) c.four.ensures) refl
+pub loop-n-preserved : goal.loop-n-preserved
+loop-n-preserved c =
+    let on = encoded_on c.args.bytes.now _ c.loop-n.n c.as_chunks.ensures.front (search rules) in
+    next c.loop-n.invariant (digits (of_three packed (get_or c.as_chunks.result.0.now c.loop-n.n []))) _ _ _ on (search rules)
+    (c.put.ensures ∙ ap (λ l. front l (left c.loop-n.invariant)) c.four.ensures)
+    (omega arith)

@@ -1,19 +1,14 @@
-use Rattle.std.proofs.Common.{sym, rules}
-use Rattle.base64_codec.proofs.Fours.{on, stops, ends, short}
+use Rattle.std.proofs.Common.{rules}
+use Rattle.base64_codec.proofs.Fours.{fours_end, nothing, uneven}
 use Rattle.base64_codec.proofs.texts.is_text.Goals as goal
 
-pub loop-rest-preserved : goal.loop-rest-preserved
-loop-rest-preserved c = let same = on c.loop-rest.rest.now (search rules) (sym c.if-not-is_full.ensures) in cc
+pub returns-then-not-is_empty : goal.returns-then-not-is_empty
+returns-then-not-is_empty c = uneven c.args.text.now (search rules)
 
-pub returns-then-is_empty : goal.returns-then-is_empty
-returns-then-is_empty c =
-    let same = ends c.loop-rest.rest.now (search rules) (sym c.if-not-is_full.ensures) (sym c.if-is_empty.ensures) in
+pub returns-in-None : goal.returns-in-None
+returns-in-None c = nothing c.args.text.now (search rules)
+
+pub returns-in-Some : goal.returns-in-Some
+returns-in-Some c =
+    let e = fours_end c.args.text.now _ c.in-Some.before.now c.in-Some.last.now c.as_chunks.ensures.front (search rules) (search rules) c.as_chunks.ensures.front_len in
     cc
-
-pub returns-else-is_empty : goal.returns-else-is_empty
-returns-else-is_empty c =
-    let same = stops c.loop-rest.rest.now (search rules) (sym c.if-not-is_full.ensures) (sym c.if-is_empty.ensures) in
-    cc
-
-pub returns : goal.returns
-returns c = let same = short c.loop-rest.rest.now (search rules) in cc

@@ -1,7 +1,8 @@
 use Rattle.std.proofs.Common.{◌≡◌}
-use Rattle.sink.specs.Reading.{read_up_to, verdict}
-use Rattle.sink.proofs.Filling.{left}
+use Rattle.std.specs.Slice.Iter.{chunks_rest, chunks_size}
+use Rattle.sink.specs.Reading.{read_log, verdict}
 use Rattle.sink.proofs.reading.check.Given as goal
 
-abbrev pub invariant-loop-n : goal.invariant-loop-n
-invariant-loop-n l = verdict (read_up_to l.count l.bytes) ≡ verdict (left l.count l.n l.bytes)
+abbrev pub invariant-loop-piece : goal.invariant-loop-piece
+invariant-loop-piece l =
+    (chunks_size l.piece-iterator ≡ 40) × (verdict (read_log l.bytes) ≡ verdict (read_log (chunks_rest l.piece-iterator)))

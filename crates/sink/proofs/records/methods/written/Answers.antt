@@ -1,10 +1,10 @@
 use Rattle.std.proofs.Common.{ap, ◌∙◌, arith}
 use Rattle.sink.proofs.Undone.{read_laid}
-use Rattle.sink.specs.Records.{laid, read_record}
+use Rattle.sink.specs.Records.{read_record}
 use Rattle.sink.proofs.records.methods.written.Goals as goal
 
-pub returns : goal.returns
-returns c =
-    let r = c.of.result in
+pub returns-clause-undone : goal.returns-clause-undone
+returns-clause-undone c =
+    let r = c.from.result in
     let read = read_laid r (omega arith) (omega arith) (omega arith) (omega arith) (omega arith) (omega arith) in
-    record { value = c.bytes.ensures ∙ ap laid c.of.ensures.value; undone = ap read_record c.bytes.ensures ∙ read ∙ c.of.ensures.undone }
+    ap read_record c.bytes.ensures ∙ read ∙ c.from.ensures.1

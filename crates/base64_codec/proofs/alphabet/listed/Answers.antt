@@ -1,7 +1,7 @@
 use Rattle.std.proofs.Common.{arith, rules}
 use Rattle.std.proofs.lemmas.List.FromFn.{get_or-map-range_with_len}
 use Rattle.base64_codec.specs.Alphabet.{alphabet, place, value}
-use Rattle.base64_codec.proofs.alphabet.value.Goals as goal
+use Rattle.base64_codec.proofs.alphabet.listed.Goals as goal
 
 -- the table is the list of the values of 0 to 255
 pub returns : goal.returns
