@@ -93,11 +93,7 @@ impl Ordered for UsedId {
     ghost further = { Prim.search rules };
 
     fn is_before(self, other: UsedId) -> bool {
-        if self.stream == other.stream {
-            self.id < other.id
-        } else {
-            self.stream < other.stream
-        }
+        self < other
     }
 }
 
