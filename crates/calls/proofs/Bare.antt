@@ -1,18 +1,15 @@
 -- Message places set aside: no call looks at them.
-use Rattle.std.proofs.Common.{◌≡◌, ℕ, zero, suc, ◌+◌, Bool, not, ◌&&◌, ltb, leb, List, [], ◌∷◌, map, length, drop, Some, None, filter, Option, sym, refl, ap, ◌∙◌, inl, inr}
+use Rattle.std.proofs.Common.{◌≡◌, ℕ, zero, suc, ◌+◌, Bool, not, ◌&&◌, ltb, leb, List, [], ◌∷◌, map, length, drop, Some, None, filter, Option, sym, refl, ap, ◌∙◌, inl, inr, Ok, Err}
 use Rattle.std.proofs.lemmas.List.{length-map, map-append}
 use Rattle.std.proofs.lemmas.Bool.{cases_Bool}
 use Rattle.event.specs.declared.dispatches.Dispatch.{Dispatch}
 use Rattle.event.specs.declared.events.Event.{Event}
-use Rattle.event.specs.declared.feeds.Ending.TheVariants.{Clean, Broken}
-use Rattle.event.specs.declared.feeds.Look.{Look}
-use Rattle.event.specs.declared.feeds.Look.TheVariants.{Record, Ended}
 use Rattle.event.specs.declared.modes.Mode.{Mode}
 use Rattle.event.specs.declared.modes.Mode.TheVariants.{Off, OnReceive, OnStart}
 use Rattle.event.specs.declared.modes.Trigger.{Trigger}
 use Rattle.event.specs.declared.modes.Trigger.TheVariants.{Receive, Start}
 use Rattle.event.specs.declared.times.Time.{Time}
-use Rattle.event.specs.Feeds.{Coming, seen}
+use Rattle.event.specs.Feeds.{Coming, Look, seen}
 use Rattle.event.specs.Sinks.{Held}
 use Rattle.event.specs.Spans.{ended}
 use Rattle.event.specs.Times.{latest, time}
@@ -45,8 +42,9 @@ bare_world w = world (bare_state w.player) (bare_held w.sink)
 
 -- a feed that shows the record with its message's place set aside
 abbrev pub shown : Look → Coming
-shown (Record e) = record { records = bare_event e ∷ []; ending = Clean }
-shown (Ended x) = record { records = []; ending = Clean }
+shown (Ok (Some e)) = record { records = bare_event e ∷ []; ending = None }
+shown (Ok None) = record { records = []; ending = None }
+shown (Err f) = record { records = []; ending = None }
 
 abbrev pub bare_call : Call → Call
 bare_call (draw c) = draw (shown (seen c))
@@ -160,9 +158,9 @@ module _ (w : State) (h : Held) where
   received_map (Some s) e = mode_map (mode_of w s) (kept_of s e)
 
 drawn_map : (l : Look) (c : Coming) (w : World) → bare_world (world (draws_at l c w.player w.sink).1 (draws_at l c w.player w.sink).2) ≡ after (draw (shown l)) (bare_world w)
-drawn_map (Record e) c w = ap (λ o. world o.1 o.2) (sym (received_map w.player w.sink e.stream e))
-drawn_map (Ended Clean) c w = refl
-drawn_map (Ended (Broken f)) c w = refl
+drawn_map (Ok (Some e)) c w = ap (λ o. world o.1 o.2) (sym (received_map w.player w.sink e.stream e))
+drawn_map (Ok None) c w = refl
+drawn_map (Err f) c w = refl
 
 -- kept events told, or gone
 module _ (p : Kept → Bool) (same : (k : Kept) → p (bare_kept k) ≡ p k) (w : World) where
@@ -219,7 +217,7 @@ runs_map [] w = refl
 runs_map (c ∷ cs) w = runs_map cs (after c w) ∙ ap (runs (map bare_call cs)) (after_map c w)
 
 shown_same : {a b : Look} → Same a b → shown a ≡ shown b
-shown_same (records e) = ap (λ x. record { records = x ∷ []; ending = Clean }) e
+shown_same (records e) = ap (λ x. record { records = x ∷ []; ending = None }) e
 shown_same ends = refl
 shown_same (faults e) = refl
 

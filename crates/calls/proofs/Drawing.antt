@@ -1,9 +1,7 @@
 -- How each line of a draw goes.
-use Rattle.std.proofs.Common.{◌≡◌, ℕ, ◌+◌, ◌<◌, ◌≤◌, true, false, cond, leb, List, length, Some, None, Option, sym, ap, inl, inr, arith}
+use Rattle.std.proofs.Common.{◌≡◌, ℕ, ◌+◌, ◌<◌, ◌≤◌, true, false, cond, leb, List, length, Some, None, Option, sym, ap, inl, inr, arith, Ok, Err}
 use Rattle.std.proofs.lemmas.Bool.{cases_Bool, le-leb, le-ltb, lt-leb, lt-ltb, leb-false}
 use Rattle.event.specs.declared.faults.Fault.{Fault}
-use Rattle.event.specs.declared.feeds.Ending.TheVariants.{Clean, Broken}
-use Rattle.event.specs.declared.feeds.Look.TheVariants.{Ended}
 use Rattle.event.specs.Feeds.{Coming, seen}
 use Rattle.event.specs.Numbers.Answer.{did, refused, refused_with}
 use Rattle.event.specs.Sinks.{Held, more}
@@ -84,8 +82,8 @@ module _ (e : Event) (w : State) (h : Held) where
 
 -- by what a look shows
 module _ (c : Coming) (w : State) (h : Held) where
-  pub draws_clean : seen c ≡ Ended Clean → ◌≡◌ {A = Draw} (did drawn.End, w, h, c) (draws c w h)
+  pub draws_clean : seen c ≡ Ok None → ◌≡◌ {A = Draw} (did drawn.End, w, h, c) (draws c w h)
   draws_clean e = ap (λ l. draws_at l c w h) (sym e)
 
-  pub draws_broken : (f : Fault) → seen c ≡ Ended (Broken f) → ◌≡◌ {A = Draw} (refused_with 26 f, w, h, c) (draws c w h)
+  pub draws_broken : (f : Fault) → seen c ≡ Err f → ◌≡◌ {A = Draw} (refused_with 26 f, w, h, c) (draws c w h)
   draws_broken f e = ap (λ l. draws_at l c w h) (sym e)

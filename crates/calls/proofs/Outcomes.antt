@@ -1,18 +1,15 @@
 -- What each call can do to a player and its sink.
-use Rattle.std.proofs.Common.{◌≡◌, ℕ, ◌<◌, ◌≤◌, Bool, true, false, cond, not, ◌&&◌, ltb, leb, List, [], ◌∷◌, map, length, drop, Some, None, filter, Option, refl, ap, ◌∙◌, inl, inr, arith}
+use Rattle.std.proofs.Common.{◌≡◌, ℕ, ◌<◌, ◌≤◌, Bool, true, false, cond, not, ◌&&◌, ltb, leb, List, [], ◌∷◌, map, length, drop, Some, None, filter, Option, refl, ap, ◌∙◌, inl, inr, arith, Ok, Err}
 use Rattle.std.specs.List.{AllByRecursion}
 use Rattle.std.proofs.ByRecursion.{All-drop, kept_by_passes}
 use Rattle.std.proofs.lemmas.Bool.{cases_Bool, cond_both, eq-eqb, ltb-false}
 use Rattle.std.proofs.lemmas.Bool.Decides.{nat_tests}
 use Rattle.event.specs.declared.events.Event.{Event}
-use Rattle.event.specs.declared.feeds.Ending.TheVariants.{Clean, Broken}
-use Rattle.event.specs.declared.feeds.Look.{Look}
-use Rattle.event.specs.declared.feeds.Look.TheVariants.{Record, Ended}
 use Rattle.event.specs.declared.modes.Mode.{Mode}
 use Rattle.event.specs.declared.modes.Mode.TheVariants.{Off, OnReceive, OnStart}
 use Rattle.event.specs.declared.modes.Trigger.TheVariants.{Receive, Start}
 use Rattle.event.specs.declared.times.Time.{Time}
-use Rattle.event.specs.Feeds.{Coming, seen}
+use Rattle.event.specs.Feeds.{Coming, Look, seen}
 use Rattle.event.specs.Numbers.Answer.{did}
 use Rattle.event.specs.Sinks.{Held, more}
 use Rattle.event.specs.Spans.{active, end_behind, ended}
@@ -97,9 +94,9 @@ module _ (w : World) (c : Call) where
   way_received (Some s) e = way_mode s e (mode_of w.player s) refl
 
   way_drawn : (l : Look) (f : Coming) → Way w c (world (draws_at l f w.player w.sink).1 (draws_at l f w.player w.sink).2)
-  way_drawn (Ended Clean) f = stays
-  way_drawn (Ended (Broken g)) f = stays
-  way_drawn (Record e) f = (way_received e.stream e).goes
+  way_drawn (Ok None) f = stays
+  way_drawn (Err g) f = stays
+  way_drawn (Ok (Some e)) f = (way_received e.stream e).goes
 
 -- how far a play comes
 due_in : (a b : ℕ) (k : Kept) → starts_in a b k ≡ true → (a < starts k) × (starts k ≤ b)

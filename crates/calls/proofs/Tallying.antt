@@ -4,8 +4,7 @@ use Rattle.std.proofs.lemmas.List.Filters.{length-filter_both}
 use Rattle.std.proofs.lemmas.List.{length-append, length-map, length_push}
 use Rattle.std.proofs.lemmas.Bool.{cases_Bool, cond_both}
 use Rattle.event.specs.declared.events.Event.{Event}
-use Rattle.event.specs.declared.feeds.Ending.{Ending}
-use Rattle.event.specs.declared.feeds.Ending.TheVariants.{Clean, Broken}
+use Rattle.event.specs.declared.faults.Fault.{Fault}
 use Rattle.event.specs.declared.modes.Mode.{Mode}
 use Rattle.event.specs.declared.modes.Mode.TheVariants.{Off, OnReceive, OnStart}
 use Rattle.event.specs.declared.modes.Trigger.TheVariants.{Receive, Start}
@@ -92,7 +91,7 @@ module _ (w : World) where
   received_adds (Some s) e = mode_adds (mode_of w.player s) (kept_of s e)
 
 -- what a feed has less after an answer
-less : (e : Event) (es : List Event) (d : Ending) (a : Answer Drawn) →
+less : (e : Event) (es : List Event) (d : Option Fault) (a : Answer Drawn) →
     length (e ∷ es) - length (Draws.stepped a (record { records = e ∷ es; ending = d })).records ≡ one a
 less e es d (did x) = omega arith
 less e es d (refused n) = omega arith
@@ -108,9 +107,9 @@ module _ (w : World) (p : Kept → Bool) (f : Kept → Time) where
 record Added (c : Call) (w : World) : Type 0 where
   added : stepped c w + here w ≡ answered drawn.Passed c w + answered drawn.Over c w + answered drawn.Repeat c w + here (after c w) + evicted_by c w + left_by c w
 
-drawn_added : (es : List Event) (d : Ending) (w : World) → Added (draw (record { records = es; ending = d })) w
-drawn_added [] Clean w = record { added = omega arith }
-drawn_added [] (Broken f) w = record { added = omega arith }
+drawn_added : (es : List Event) (d : Option Fault) (w : World) → Added (draw (record { records = es; ending = d })) w
+drawn_added [] None w = record { added = omega arith }
+drawn_added [] (Some f) w = record { added = omega arith }
 drawn_added (e ∷ es) d w =
     let o = receives_in e.stream e w.player w.sink in
     record { added = omega (arith, (received_adds w e.stream e).adds, less e es d o.0) }

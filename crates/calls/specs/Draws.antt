@@ -13,16 +13,13 @@
 --   receives e w h       the first fitting line for a record
 --   stepped a c          what is to come after the answer: a record that was not refused is gone
 --   draws c w h          what a draw answers, and leaves of the player, the sink and what is to come
-use Rattle.std.specs.Prelude.{ℕ, ◌+◌, Bool, false, cond, ◌&&◌, ◌||◌, List, length, Some, None, Option, nat_le, nat_lt}
+use Rattle.std.specs.Prelude.{ℕ, ◌+◌, Bool, false, cond, ◌&&◌, ◌||◌, List, length, Some, None, Option, nat_le, nat_lt, Ok, Err}
 use Rattle.event.specs.declared.dispatches.Dispatch.{Dispatch}
 use Rattle.event.specs.declared.events.Event.{Event}
-use Rattle.event.specs.declared.feeds.Ending.TheVariants.{Clean, Broken}
-use Rattle.event.specs.declared.feeds.Look.{Look}
-use Rattle.event.specs.declared.feeds.Look.TheVariants.{Record, Ended}
 use Rattle.event.specs.declared.modes.Mode.{Mode}
 use Rattle.event.specs.declared.modes.Mode.TheVariants.{Off, OnReceive, OnStart}
 use Rattle.event.specs.declared.modes.Trigger.TheVariants.{Receive, Start}
-use Rattle.event.specs.Feeds.{Coming, rest, seen}
+use Rattle.event.specs.Feeds.{Coming, Look, rest, seen}
 use Rattle.event.specs.Numbers.{Answer}
 use Rattle.event.specs.Numbers.Answer.{did, refused, refused_with}
 use Rattle.event.specs.Sinks.{Held, more}
@@ -106,9 +103,9 @@ abbrev pub takes : Outcome → Coming → Draw
 takes o c = (o.0, o.1, o.2, stepped o.0 c)
 
 abbrev pub draws_at : Look → Coming → State → Held → Draw
-draws_at (Ended Clean) c w h = (did drawn.End, w, h, c)
-draws_at (Ended (Broken f)) c w h = (refused_with 26 f, w, h, c)
-draws_at (Record e) c w h = takes (receives e w h) c
+draws_at (Ok None) c w h = (did drawn.End, w, h, c)
+draws_at (Err f) c w h = (refused_with 26 f, w, h, c)
+draws_at (Ok (Some e)) c w h = takes (receives e w h) c
 
 abbrev pub draws : Coming → State → Held → Draw
 draws c w h = draws_at (seen c) c w h

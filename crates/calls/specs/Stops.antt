@@ -7,16 +7,13 @@
 --   Stopped cs ds          ds is cs with each draw in place of one that finds the same, and with any plays, none past t, before a play to t that is not past the latest time
 --   Agree w v              equal playheads, modes and used ids; equal kept events and lists told, message places set aside
 --   StopsChangeNothing w   every run from w and the run in stops from a world that began as w agree
-use Rattle.std.specs.Prelude.{◌≡◌, ℕ, ◌≤◌, List, [], ◌∷◌, ◌++◌, map}
+use Rattle.std.specs.Prelude.{◌≡◌, ℕ, ◌≤◌, List, [], ◌∷◌, ◌++◌, map, Some, None, Ok, Err}
 use Rattle.std.specs.List.{AllByRecursion}
 use Rattle.event.specs.declared.dispatches.Dispatch.{Dispatch}
 use Rattle.event.specs.declared.events.Event.{Event}
 use Rattle.event.specs.declared.events.Message.{Message}
 use Rattle.event.specs.declared.faults.Fault.{Fault}
-use Rattle.event.specs.declared.feeds.Ending.TheVariants.{Clean, Broken}
-use Rattle.event.specs.declared.feeds.Look.{Look}
-use Rattle.event.specs.declared.feeds.Look.TheVariants.{Record, Ended}
-use Rattle.event.specs.Feeds.{Coming, seen}
+use Rattle.event.specs.Feeds.{Coming, Look, seen}
 use Rattle.event.specs.Numbers.{defect_number}
 use Rattle.event.specs.Times.{latest}
 use Rattle.tables.specs.declared.elements.Kept.{Kept}
@@ -36,9 +33,9 @@ abbrev pub bare_dispatch : Dispatch → Dispatch
 bare_dispatch d = record { position = d.position; trigger = d.trigger; stream = d.stream; id = d.id; span = d.span; message = bare_message d.message }
 
 pub data Same : Look → Look → Type 0 where
-  records : {e f : Event} → bare_event e ≡ bare_event f → Same (Record e) (Record f)
-  ends : Same (Ended Clean) (Ended Clean)
-  faults : {f g : Fault} → defect_number f.defect ≡ defect_number g.defect → Same (Ended (Broken f)) (Ended (Broken g))
+  records : {e f : Event} → bare_event e ≡ bare_event f → Same (Ok (Some e)) (Ok (Some f))
+  ends : Same (Ok None) (Ok None)
+  faults : {f g : Fault} → defect_number f.defect ≡ defect_number g.defect → Same (Err f) (Err g)
 
 pub data Alike : Call → Call → Type 0 where
   itself : {c : Call} → Alike c c

@@ -7,12 +7,11 @@
 --   draws_sheet p e ts w h       drawing the sheet in a stretch, in a period that starts at p
 --   draws_segment p e t ts w h   drawing the segment in a stretch, with its timing, likewise
 --   performs c m ts w h          what a command does, over the media buffer m with the streams ts listed
-use Rattle.std.specs.Prelude.{ℕ, List, [], ◌∷◌}
+use Rattle.std.specs.Prelude.{ℕ, List, [], ◌∷◌, Some, None, Option}
 use Rattle.std.specs.List.{between}
 use Rattle.event.specs.Feeds.{Coming}
 use Rattle.event.specs.declared.events.Event.{Event}
-use Rattle.event.specs.declared.feeds.Ending.{Ending}
-use Rattle.event.specs.declared.feeds.Ending.TheVariants.{Clean, Broken}
+use Rattle.event.specs.declared.faults.Fault.{Fault}
 use Rattle.event.specs.Numbers.{Answer}
 use Rattle.event.specs.Numbers.Answer.{did, refused, refused_with}
 use Rattle.event.specs.Sinks.{Held}
@@ -42,9 +41,9 @@ goes_on (did d) w h next = next
 goes_on (refused n) w h next = (refused n, w, h)
 goes_on (refused_with n f) w h next = (refused_with n f, w, h)
 
-abbrev pub draws_all : List Event → Ending → State → Held → After
-draws_all [] Clean w h = (did tt, w, h)
-draws_all [] (Broken f) w h = (refused_with 26 f, w, h)
+abbrev pub draws_all : List Event → Option Fault → State → Held → After
+draws_all [] None w h = (did tt, w, h)
+draws_all [] (Some f) w h = (refused_with 26 f, w, h)
 draws_all (e ∷ es) x w h =
     goes_on (receives e w h).0 (receives e w h).1 (receives e w h).2
     (draws_all es x (receives e w h).1 (receives e w h).2)

@@ -1,20 +1,23 @@
 -- What is still to come from a feed.
---   Coming   the records, and the ending behind them
+--   Coming   the records, and the fault that stands behind them, where the end is not clean
+--   Look     what a look shows: a record, none at a clean end, or the fault
 --   seen     the first record, or the ending where none is left
 --   rest     all but the first record
-use Rattle.std.specs.Prelude.{List, [], ◌∷◌, drop}
+use Rattle.std.specs.Prelude.{List, [], ◌∷◌, drop, Some, None, Option, Ok, Err, Result}
 use Rattle.event.specs.declared.events.Event.{Event}
-use Rattle.event.specs.declared.feeds.Ending.{Ending}
-use Rattle.event.specs.declared.feeds.Look.{Look}
-use Rattle.event.specs.declared.feeds.Look.TheVariants.{Record, Ended}
+use Rattle.event.specs.declared.faults.Fault.{Fault}
 
 pub record Coming : Type 0 where
   pub records : List Event
-  pub ending : Ending
+  pub ending : Option Fault
 
-abbrev pub first : List Event → Ending → Look
-first [] ending = Ended ending
-first (e ∷ es) ending = Record e
+abbrev pub Look : Type 0
+Look = Result (Option Event) Fault
+
+abbrev pub first : List Event → Option Fault → Look
+first [] None = Ok None
+first [] (Some f) = Err f
+first (e ∷ es) ending = Ok (Some e)
 
 abbrev pub seen : Coming → Look
 seen c = first c.records c.ending

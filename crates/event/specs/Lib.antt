@@ -1,3 +1,4 @@
+pub mod BigEndian
 pub mod Feeds
 pub mod Fronts
 pub mod Modes

@@ -1,21 +1,19 @@
 // A feed: records one after the other, and then an ending.
+ghost use Rattle.std.specs.Prelude.{◌≡◌};
+ghost use Rattle.event.specs.Feeds.{Coming, seen, rest};
+
 use crate::events::Event;
 use crate::faults::Fault;
 
-pub mod meaning;
+// A feed means the records still to come and an ending: clean, or a fault.
+pub trait Feed {
+    ghost coming: { Self → Coming };
 
-pub use meaning::Feed;
+    // The first record, none at a clean end, or the fault that the feed stops at; nothing changes.
+    fn look(&self) -> Result<Option<Event>, Fault>
+        ensures { result ≡ seen (coming self.now) };
 
-// How a feed ends: clean, or broken by a fault.
-#[derive(Clone, Copy, PartialEq, Eq, Debug)]
-pub enum Ending {
-    Clean,
-    Broken(Fault),
-}
-
-// What a look at a feed shows: its first record, or its ending where no record is left.
-#[derive(Clone, Copy, PartialEq, Eq, Debug)]
-pub enum Look {
-    Record(Event),
-    Ended(Ending),
+    // Removes the first record, if there is one.
+    fn step(&mut self)
+        ensures { coming self.new ≡ rest (coming self.old) };
 }

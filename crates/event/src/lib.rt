@@ -15,7 +15,7 @@ pub mod times;
 pub use dispatches::Dispatch;
 pub use events::{Event, Message};
 pub use faults::{Defect, Fault, Layer};
-pub use feeds::{Ending, Feed, Look};
+pub use feeds::Feed;
 pub use modes::{Mode, Trigger};
 pub use refusals::Refusal;
 pub use sinks::Sink;

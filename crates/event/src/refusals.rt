@@ -1,6 +1,7 @@
 // Why a call refuses.
 use crate::faults::{Defect, Fault};
 
+pub mod conversions;
 pub mod methods;
 
 // The reason; `number` gives the number under which it is listed.

@@ -1,12 +1,10 @@
 -- Layers over layers.
-use Rattle.std.proofs.Common.{◌≡◌, ℕ, ◌+◌, Bool, true, false, cond, ◌&&◌, List, [], ◌∷◌, ◌++◌, map, sym, refl, ◌∙◌, append_assoc, add-zero, arith}
+use Rattle.std.proofs.Common.{◌≡◌, ℕ, ◌+◌, Bool, true, false, cond, ◌&&◌, List, [], ◌∷◌, ◌++◌, map, sym, refl, ◌∙◌, append_assoc, add-zero, arith, Some, None, Option}
 use Rattle.event.proofs.Clock.{known_by_ms, time_ms}
 use Rattle.event.specs.Feeds.{Coming}
 use Rattle.event.specs.Times.{time}
 use Rattle.event.specs.declared.events.Event.{Event}
 use Rattle.event.specs.declared.faults.Fault.{Fault}
-use Rattle.event.specs.declared.feeds.Ending.{Ending}
-use Rattle.event.specs.declared.feeds.Ending.TheVariants.{Clean, Broken}
 use Rattle.layers.specs.Joins.{behind, joined}
 use Rattle.layers.specs.Periods.{fits, moved, past_latest, fitting, stop, in_period}
 use Rattle.std.proofs.lemmas.Bool.{cond_both}
@@ -27,7 +25,7 @@ adds_records p q [] = refl
 adds_records p q (e ∷ es) =
     let ih = adds_records p q es in let m = moved_twice p q e in let f = fits_twice p q e in grind (arith, nat_tests)
 
-adds_stop : (p q : ℕ) (es : List Event) (g : Ending) → stop p (map (moved q) (fitting q es)) (stop q es g) ≡ stop (q + p) es g
+adds_stop : (p q : ℕ) (es : List Event) (g : Option Fault) → stop p (map (moved q) (fitting q es)) (stop q es g) ≡ stop (q + p) es g
 adds_stop p q [] g = refl
 adds_stop p q (e ∷ es) g =
     let ih = adds_stop p q es g in let f = fits_twice p q e in grind (arith, nat_tests)
@@ -49,7 +47,7 @@ still_records : (es : List Event) → map (moved 0) (fitting 0 es) ≡ es
 still_records [] = refl
 still_records (e ∷ es) = let ih = still_records es in let m = moved_still e in let f = fits_still e in grind (arith)
 
-still_stop : (es : List Event) (g : Ending) → stop 0 es g ≡ g
+still_stop : (es : List Event) (g : Option Fault) → stop 0 es g ≡ g
 still_stop [] g = refl
 still_stop (e ∷ es) g = let ih = still_stop es g in let f = fits_still e in grind (arith)
 
@@ -58,34 +56,34 @@ pub still : (c : Coming) → in_period 0 c ≡ c
 still c = λ i. record { records = still_records c.records i; ending = still_stop c.records c.ending i }
 
 -- a fault of the first feed stays behind its records
-broken_through : (p : ℕ) (es : List Event) (f : Fault) (rs : List Event) (c : Coming) → behind rs (stop p es (Broken f)) c ≡ record { records = rs; ending = stop p es (Broken f) }
+broken_through : (p : ℕ) (es : List Event) (f : Fault) (rs : List Event) (c : Coming) → behind rs (stop p es (Some f)) c ≡ record { records = rs; ending = stop p es (Some f) }
 broken_through p [] f rs c = refl
 broken_through p (e ∷ es) f rs c =
-    cond_both (fits p e) (stop p es (Broken f)) (Broken (past_latest e)) (λ g. behind rs g c ≡ record { records = rs; ending = g }) (λ _. broken_through p es f rs c) (λ _. refl)
+    cond_both (fits p e) (stop p es (Some f)) (Some (past_latest e)) (λ g. behind rs g c ≡ record { records = rs; ending = g }) (λ _. broken_through p es f rs c) (λ _. refl)
 
 -- one record more in front
-behind_more : (e : Event) (es : List Event) (g : Ending) (c : Coming) → record { records = e ∷ (behind es g c).records; ending = (behind es g c).ending } ≡ behind (e ∷ es) g c
-behind_more e es Clean c = refl
-behind_more e es (Broken f) c = refl
+behind_more : (e : Event) (es : List Event) (g : Option Fault) (c : Coming) → record { records = e ∷ (behind es g c).records; ending = (behind es g c).ending } ≡ behind (e ∷ es) g c
+behind_more e es None c = refl
+behind_more e es (Some f) c = refl
 
-through_step : (b : Bool) (p : ℕ) (e : Event) (es fs : List Event) (g h : Ending) (c : Coming) → record { records = map (moved p) es; ending = g } ≡ behind (map (moved p) fs) h c → record { records = map (moved p) (cond b (e ∷ es) []); ending = cond b g (Broken (past_latest e)) } ≡ behind (map (moved p) (cond b (e ∷ fs) [])) (cond b h (Broken (past_latest e))) c
+through_step : (b : Bool) (p : ℕ) (e : Event) (es fs : List Event) (g h : Option Fault) (c : Coming) → record { records = map (moved p) es; ending = g } ≡ behind (map (moved p) fs) h c → record { records = map (moved p) (cond b (e ∷ es) []); ending = cond b g (Some (past_latest e)) } ≡ behind (map (moved p) (cond b (e ∷ fs) [])) (cond b h (Some (past_latest e))) c
 through_step true p e es fs g h c ih = (λ i. record { records = moved p e ∷ (ih i).records; ending = (ih i).ending }) ∙ behind_more (moved p e) (map (moved p) fs) h c
 through_step false p e es fs g h c ih = refl
 
-through_at : (p : ℕ) (es : List Event) (g : Ending) (c : Coming) → in_period p (behind es g c) ≡ behind (map (moved p) (fitting p es)) (stop p es g) (in_period p c)
-through_at p es (Broken f) c = sym (broken_through p es f (map (moved p) (fitting p es)) (in_period p c))
-through_at p [] Clean c = refl
-through_at p (e ∷ es) Clean c =
-    through_step (fits p e) p e (fitting p (es ++ c.records)) (fitting p es) (stop p (es ++ c.records) c.ending) (stop p es Clean) (in_period p c) (through_at p es Clean c)
+through_at : (p : ℕ) (es : List Event) (g : Option Fault) (c : Coming) → in_period p (behind es g c) ≡ behind (map (moved p) (fitting p es)) (stop p es g) (in_period p c)
+through_at p es (Some f) c = sym (broken_through p es f (map (moved p) (fitting p es)) (in_period p c))
+through_at p [] None c = refl
+through_at p (e ∷ es) None c =
+    through_step (fits p e) p e (fitting p (es ++ c.records)) (fitting p es) (stop p (es ++ c.records) c.ending) (stop p es None) (in_period p c) (through_at p es None c)
 
 -- a period over a join is a join of periods
 pub through : (p : ℕ) (b c : Coming) → in_period p (joined b c) ≡ joined (in_period p b) (in_period p c)
 through p b c = through_at p b.records b.ending c
 
-chains_at : (es fs : List Event) (g h : Ending) (c : Coming) → joined (behind es g (record { records = fs; ending = h })) c ≡ behind es g (behind fs h c)
-chains_at es fs Clean Clean c = let a = append_assoc es fs c.records in cc
-chains_at es fs Clean (Broken f) c = refl
-chains_at es fs (Broken f) h c = refl
+chains_at : (es fs : List Event) (g h : Option Fault) (c : Coming) → joined (behind es g (record { records = fs; ending = h })) c ≡ behind es g (behind fs h c)
+chains_at es fs None None c = let a = append_assoc es fs c.records in cc
+chains_at es fs None (Some f) c = refl
+chains_at es fs (Some f) h c = refl
 
 -- three feeds join in one way
 pub chains : (a b c : Coming) → joined (joined a b) c ≡ joined a (joined b c)

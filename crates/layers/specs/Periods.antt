@@ -7,15 +7,13 @@
 --   in_period p c   what is to come, each record moved, up to the first that does not fit
 --   without p es c the rest of c where the first of es fits, else c
 --   removes p c     what a step of the period leaves of the feed below: where the first record does not fit, all of it
-use Rattle.std.specs.Prelude.{ℕ, ◌+◌, Bool, cond, ◌&&◌, List, [], ◌∷◌, map, nat_le}
+use Rattle.std.specs.Prelude.{ℕ, ◌+◌, Bool, cond, ◌&&◌, List, [], ◌∷◌, map, nat_le, Some, Option}
 use Rattle.event.specs.Feeds.{Coming, rest}
 use Rattle.event.specs.Times.{latest, time}
 use Rattle.event.specs.declared.events.Event.{Event}
 use Rattle.event.specs.declared.faults.Defect.TheVariants.{PastLatest}
 use Rattle.event.specs.declared.faults.Fault.{Fault}
 use Rattle.event.specs.declared.faults.Layer.TheVariants.{Period}
-use Rattle.event.specs.declared.feeds.Ending.{Ending}
-use Rattle.event.specs.declared.feeds.Ending.TheVariants.{Broken}
 
 abbrev pub fits : ℕ → Event → Bool
 fits p e = nat_le (e.span.start.ms + p) latest && nat_le (e.arrival.ms + p) latest
@@ -36,9 +34,9 @@ abbrev pub fitting : ℕ → List Event → List Event
 fitting p [] = []
 fitting p (e ∷ es) = cond (fits p e) (e ∷ fitting p es) []
 
-abbrev pub stop : ℕ → List Event → Ending → Ending
+abbrev pub stop : ℕ → List Event → Option Fault → Option Fault
 stop p [] g = g
-stop p (e ∷ es) g = cond (fits p e) (stop p es g) (Broken (past_latest e))
+stop p (e ∷ es) g = cond (fits p e) (stop p es g) (Some (past_latest e))
 
 abbrev pub in_period : ℕ → Coming → Coming
 in_period p c = record { records = map (moved p) (fitting p c.records); ending = stop p c.records c.ending }

@@ -10,22 +10,17 @@ impl Span {
     pub fn is_active(self, t: Time) -> bool
         ensures { result ≡ active self t.ms }
     {
-        if t.ms() < self.start.ms() {
-            return false;
-        }
-        match self.duration {
-            None => true,
-            Some(d) => t.ms() - self.start.ms() <= d.ms(),
-        }
+        self.start <= t
+            && self
+                .duration
+                .is_none_or(|d| t.ms() - self.start.ms() <= d.ms())
     }
 
     // The end is behind t.
     pub fn has_ended(self, t: Time) -> bool
         ensures { result ≡ ended self t.ms }
     {
-        match self.duration {
-            None => false,
-            Some(d) => self.start.ms() + d.ms() < t.ms(),
-        }
+        self.duration
+            .is_some_and(|d| self.start.ms() + d.ms() < t.ms())
     }
 }

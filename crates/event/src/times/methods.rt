@@ -33,11 +33,7 @@ impl Time {
     pub fn plus(self, more: u64) -> Option<Time>
         ensures { result ≡ (if nat_le (self.ms + more) latest then Some (time (self.ms + more)) else None) }
     {
-        if more <= Self::LATEST {
-            Time::new(self.ms + more)
-        } else {
-            None
-        }
+        Time::new(self.ms.checked_add(more)?)
     }
 
     // One millisecond earlier; the start of the presentation stays.

@@ -5,7 +5,7 @@ ghost use Rattle.layers.specs.Joins.{joined};
 ghost use Rattle.layers.specs.Periods.{in_period};
 
 use super::Join;
-use event::{Ending, Feed, Look};
+use event::{Event, Fault, Feed};
 
 impl<F: Feed, G: Feed> Join<F, G> {
     // The first feed's records and, after its clean end, the second's. A period over it is a join of periods, and three feeds join in one way.
@@ -21,16 +21,16 @@ impl<F: Feed, G: Feed> Join<F, G> {
 impl<F: Feed, G: Feed> Feed for Join<F, G> {
     ghost coming = { λ j. joined (F.Feed.coming j.first) (G.Feed.coming j.second) };
 
-    fn look(&self) -> Look {
-        match self.first.look() {
-            Look::Ended(Ending::Clean) => self.second.look(),
-            found => found,
+    fn look(&self) -> Result<Option<Event>, Fault> {
+        match self.first.look()? {
+            None => self.second.look(),
+            record => Ok(record),
         }
     }
 
     fn step(&mut self) {
         match self.first.look() {
-            Look::Ended(Ending::Clean) => self.second.step(),
+            Ok(None) => self.second.step(),
             _ => self.first.step(),
         }
     }

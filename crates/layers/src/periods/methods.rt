@@ -4,7 +4,7 @@ ghost use Rattle.event.specs.Feeds.{rest};
 ghost use Rattle.layers.specs.Periods.{fits, moved, in_period, removes};
 
 use super::Period;
-use event::{Defect, Ending, Event, Fault, Feed, Layer, Look, Span};
+use event::{Defect, Event, Fault, Feed, Layer, Span};
 
 impl<F: Feed> Period<F> {
     // The feed's records, each later by `start` milliseconds. A period over it is one period of both starts together.
@@ -25,33 +25,28 @@ fn later(event: Event, by: u64) -> Option<Event>
     let arrival = event.arrival.plus(by)?;
     let span = Span {
         start,
-        duration: event.span.duration,
+        ..event.span
     };
     Some(Event {
-        stream: event.stream,
-        id: event.id,
         span,
         arrival,
-        message: event.message,
+        ..event
     })
 }
 
 impl<F: Feed> Feed for Period<F> {
     ghost coming = { λ p. in_period p.start (F.Feed.coming p.feed) };
 
-    fn look(&self) -> Look {
-        let event = match self.feed.look() {
-            Look::Record(event) => event,
-            Look::Ended(ending) => return Look::Ended(ending),
+    fn look(&self) -> Result<Option<Event>, Fault> {
+        let Some(event) = self.feed.look()? else {
+            return Ok(None);
         };
-        match later(event, self.start) {
-            Some(moved) => Look::Record(moved),
-            None => Look::Ended(Ending::Broken(Fault {
-                defect: Defect::PastLatest,
-                place: event.message.place,
-                layer: Layer::Period,
-            })),
-        }
+        let moved = later(event, self.start).ok_or(Fault {
+            defect: Defect::PastLatest,
+            place: event.message.place,
+            layer: Layer::Period,
+        })?;
+        Ok(Some(moved))
     }
 
     fn step(&mut self)
@@ -59,7 +54,7 @@ impl<F: Feed> Feed for Period<F> {
         ensures below { F.Feed.coming self.new.feed ≡ removes self.old.start (F.Feed.coming self.old.feed) }
         ensures start { self.new.start ≡ self.old.start }
     {
-        if let Look::Record(event) = self.feed.look() {
+        if let Ok(Some(event)) = self.feed.look() {
             if later(event, self.start).is_some() {
                 self.feed.step();
             }

@@ -13,7 +13,7 @@ ghost use Rattle.player.specs.Rows.{items};
 use super::Player;
 use crate::rows::Rows;
 use calls::Drawn;
-use event::{Dispatch, Ending, Event, Feed, Look, Mode, Refusal, Sink, Trigger};
+use event::{Dispatch, Event, Feed, Mode, Refusal, Sink, Trigger};
 use tables::elements::methods::Named;
 use tables::{Kept, UsedId};
 
@@ -165,16 +165,11 @@ impl Player<'_> {
         ensures lent { Lent self.old self.new }
         ensures same { is_ok result ≡ false → (self.new ≡ self.old) × (sink.new ≡ sink.old) × (feed.new ≡ feed.old) }
     {
-        match feed.look() {
-            Look::Ended(ending) => match ending {
-                Ending::Clean => Ok(Drawn::End),
-                Ending::Broken(fault) => Err(Refusal::AtFault(fault)),
-            },
-            Look::Record(event) => {
-                let drawn = self.receive(event, sink)?;
-                feed.step();
-                Ok(drawn)
-            }
-        }
+        let Some(event) = feed.look()? else {
+            return Ok(Drawn::End);
+        };
+        let drawn = self.receive(event, sink)?;
+        feed.step();
+        Ok(drawn)
     }
 }
