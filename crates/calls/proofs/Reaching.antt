@@ -150,17 +150,30 @@ module _ (a t free : ℕ) (ks : List Kept) (ordered : sorted earlier ks ≡ true
   pub none_further : (v : ℕ) → reach_before (drop free (filter (starts_in a t) ks)) t < v → v ≤ t → free < length (filter (starts_in a v) ks)
   none_further = further_to (drop free (filter (starts_in a t) ks)) refl
 
--- over the first n of xs, with the event read where the first place is missing
-module _ (a t free : ℕ) (xs : List Kept) (n first : ℕ) (k : Kept) (long : n ≤ length xs) (ordered : sorted earlier (take n xs) ≡ true) (is : first ≡ prefix (starts_by a) (take n xs))
-    (inside : first + free < n) (read : k ≡ get_or xs (first + free) k) where
-  within : prefix (starts_by a) (take n xs) + free < length (take n xs)
-  within = omega (arith, length-take-le n xs long)
+-- what stands behind the first events, and the event read there where the first place is missing
+module _ (a t free : ℕ) (ks : List Kept) (ordered : sorted earlier ks ≡ true) (first : ℕ) (is : first ≡ prefix (starts_by a) ks) where
+  later : List Kept
+  later = take (length ks - first) (drop first ks)
 
-  found : k ≡ get_or (take n xs) (prefix (starts_by a) (take n xs) + free) k
-  found = read ∙ sym (get_or-take n xs (first + free) k inside) ∙ ap (λ m. get_or (take n xs) (m + free) k) is
+  length_later : length later ≡ length ks - first
+  unfolding later
+  length_later = omega (arith, length-take (length ks - first) (drop first ks), length-drop first ks)
 
-  pub reaches_target : t < starts k → t ≡ reach_before (drop free (filter (starts_in a t) (take n xs))) t
-  reaches_target l = reach_later a t free (take n xs) ordered k within found l
+  pub all_reached : length (take (length ks - first) (drop first ks)) ≤ free → t ≡ reach_before (drop free (filter (starts_in a t) ks)) t
+  unfolding later
+  all_reached l = reach_all a t free ks ordered (omega (arith, length_later))
 
-  pub halts_before : starts k ≤ t → starts k - 1 ≡ reach_before (drop free (filter (starts_in a t) (take n xs))) t
-  halts_before l = reach_held a t free (take n xs) ordered k within found l
+  module _ (k : Kept) (below : free < length (take (length ks - first) (drop first ks))) (read : k ≡ get_or (take (length ks - first) (drop first ks)) free k) where
+    within : prefix (starts_by a) ks + free < length ks
+    unfolding later
+    within = omega (arith, length_later)
+
+    found : k ≡ get_or ks (prefix (starts_by a) ks + free) k
+    unfolding later
+    found = read ∙ get_or-take (length ks - first) (drop first ks) free k (omega (arith, length_later)) ∙ get_or-drop first ks free k ∙ ap (λ m. get_or ks (m + free) k) is
+
+    pub reaches_target : t < starts k → t ≡ reach_before (drop free (filter (starts_in a t) ks)) t
+    reaches_target l = reach_later a t free ks ordered k within found l
+
+    pub halts_before : starts k ≤ t → starts k - 1 ≡ reach_before (drop free (filter (starts_in a t) ks)) t
+    halts_before l = reach_held a t free ks ordered k within found l

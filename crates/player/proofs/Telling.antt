@@ -1,37 +1,59 @@
 -- Telling kept events one after the other.
-use Rattle.std.proofs.Common.{◌≡◌, ℕ, ◌+◌, ◌-◌, ◌<◌, ◌≤◌, Bool, true, false, cond, List, [], ◌∷◌, ◌++◌, map, length, get_or, take, filter, sym, refl, ap, ◌∙◌, arith}
+use Rattle.std.proofs.Common.{◌≡◌, ℕ, ◌+◌, ◌-◌, ◌<◌, ◌≤◌, Bool, true, false, cond, List, [], ◌∷◌, ◌++◌, map, length, get_or, take, drop, filter, is_some, Some, None, Option, inl, inr, sym, refl, ap, ◌∙◌, arith}
 use Rattle.std.proofs.lemmas.List.Elements.{filter_more}
-use Rattle.std.proofs.lemmas.List.Filters.{length-filter_both}
-use Rattle.std.proofs.lemmas.List.{append-nil, length-map, length_push, length-take, map_push}
+use Rattle.std.proofs.lemmas.List.{append-nil, length-map, length-take-le, length_push, map_push, take-append-drop, take_all}
 use Rattle.std.proofs.lemmas.Slice.{drop-append-drop}
+use Rattle.std.proofs.lemmas.Bool.{cases_Bool}
 use Rattle.event.specs.declared.dispatches.Dispatch.{Dispatch}
 use Rattle.event.specs.Fronts.{front}
 use Rattle.event.specs.Sinks.{Held, more}
 use Rattle.tables.specs.declared.elements.Kept.{Kept}
 use Rattle.tables.specs.declared.elements.UsedId.{UsedId}
 use Rattle.player.specs.declared.rows.Rows.{Rows}
-use Rattle.calls.specs.Draws.{marked}
-use Rattle.tables.specs.Elements.{has_id, id_before}
+use Rattle.calls.specs.Draws.{marked, marked_as}
+use Rattle.tables.specs.Elements.{has_id, id_before, name_of}
 use Rattle.calls.specs.Plays.{marked_all, told_to}
-use Rattle.player.specs.Rows.{items}
+use Rattle.player.specs.Rows.{Behind, items}
 use Rattle.calls.specs.State.{ids}
-use Rattle.tables.specs.Tables.{fails, sorted}
-use Rattle.calls.proofs.Marking.{fewer_ids, fewer_picked, ids_push, length_marked, marked_all_push, marked_all_sorted, told_to_more, told_to_none}
-use Rattle.player.proofs.Fronts.{front_same}
+use Rattle.calls.proofs.Marking.{fewer_ids, fewer_picked, ids_push, length_marked, marked_all_push, told_to_more, told_to_none}
+use Rattle.tables.proofs.InOrder.{length_placed}
 
-pub front_again : {X : Type 0} (zs ys xs ws : List X) → ws ≡ front ys xs → length ys ≤ length zs → front zs ws ≡ front zs xs
-front_again zs ys xs ws e h = ap (λ l. front zs l) e ∙ ap (λ l. zs ++ l) (drop-append-drop (length ys) xs ys (length zs) h refl)
+length_marked_as : (o : Option ℕ) (s : ℕ) (u : List UsedId) → length (marked_as o s u) ≡ length u + cond (is_some o) 1 0
+length_marked_as None s u = omega arith
+length_marked_as (Some i) s u = omega (arith, length_placed id_before (name_of s i) u)
+
+pub length_marked_is : (k : Kept) (u : List UsedId) → length (marked k u) ≡ length u + cond (has_id k) 1 0
+length_marked_is k u = length_marked_as k.id k.stream u
+
+pub length_marked_all : (ks : List Kept) (u : List UsedId) → length (marked_all ks u) ≡ length u + ids ks
+length_marked_all [] u = omega arith
+length_marked_all (k ∷ ks) u =
+    let ih = length_marked_all ks (marked k u) in
+    let one = length_marked_is k u in
+    elim (cases_Bool (has_id k)) [ inl t ↦ rw t (let e : length (marked k u) ≡ length u + 1 = rw t at one in omega (arith, ih, e)) | inr f ↦ rw f (let e : length (marked k u) ≡ length u + 0 = rw f at one in omega (arith, ih, e)) ]
+
+-- nothing written
+pub behind_same : {X : Type 0} {o : _} (r : Rows X o) → Behind r r
+behind_same r = (sym (ap (λ k. take r.len r.slots.now ++ drop k r.slots.now) (length-take-le r.len r.slots.now r.within) ∙ take-append-drop r.len r.slots.now), refl)
+
+-- written where nothing was changed before
+pub behind_after : {X : Type 0} {o : _} (r q s : Rows X o) → Behind r q → items q ≡ items r → Behind q s → Behind r s
+behind_after r q s h is w =
+    let same : q.slots.now ≡ r.slots.now = h.0 ∙ ap (λ l. front l r.slots.now) is ∙ sym (behind_same r).0 in
+    (w.0 ∙ ap (front (items s)) same, w.1 ∙ h.1)
+
+-- one more marked
+pub behind_marked : {o : _} (r q s : Rows UsedId o) (k : Kept) → Behind r q → items s ≡ marked k (items q) → Behind q s → Behind r s
+behind_marked r q s k h is w =
+    (w.0 ∙ ap (front (items s)) h.0 ∙ ap (λ m. items s ++ m) (drop-append-drop (length (items q)) r.slots.now (items q) (length (items s)) (omega (arith, ap length is, length_marked k (items q))) refl), w.1 ∙ h.1)
 
 -- the first i of xs gone through: what passes p is told and marked
-pub record Told (p : Kept → Bool) (f : Kept → Dispatch) (xs : List Kept) (u v : Rows UsedId) (h g : Held) (n i : ℕ) : Type 0 where
+pub record Told {o : _} (p : Kept → Bool) (f : Kept → Dispatch) (xs : List Kept) (u v : Rows UsedId o) (h g : Held) (n i : ℕ) : Type 0 where
   pub count : n ≡ length (filter p (take i xs))
   pub held : g ≡ told_to h (map f (filter p (take i xs)))
   pub used : items v ≡ marked_all (filter p (take i xs)) (items u)
-  pub slots : v.slots.now ≡ front (items v) u.slots.now
-  pub places : length v.slots.now ≡ length u.slots.now
-  pub len : v.len ≡ u.len + ids (filter p (take i xs))
 
-module _ {p : Kept → Bool} {f : Kept → Dispatch} {xs : List Kept} {u v : Rows UsedId} {h g : Held} {n i : ℕ} (so_far : Told p f xs u v h g n i)
+module _ {o : _} {p : Kept → Bool} {f : Kept → Dispatch} {xs : List Kept} {u v : Rows UsedId o} {h g : Held} {n i : ℕ} (so_far : Told p f xs u v h g n i)
     (below : i < length xs) {x : Kept} (read : x ≡ get_or xs i x) where
   more_is : (b : Bool) → p x ≡ b → filter p (take (i + 1) xs) ≡ filter p (take i xs) ++ cond b (x ∷ []) []
   more_is b e =
@@ -46,60 +68,37 @@ module _ {p : Kept → Bool} {f : Kept → Dispatch} {xs : List Kept} {u v : Row
         count = so_far.count ∙ ap length same;
         held = so_far.held ∙ ap (λ l. told_to h (map f l)) same;
         used = so_far.used ∙ ap (λ l. marked_all l (items u)) same;
-        slots = so_far.slots;
-        places = so_far.places;
-        len = so_far.len ∙ ap (λ l. u.len + ids l) same;
       }
 
   -- the event passes
-  module _ (passes : p x ≡ true) (m : ℕ) (l : i < m) where
+  module _ (passes : p x ≡ true) where
     more_picked : filter p (take (i + 1) xs) ≡ filter p (take i xs) ++ (x ∷ [])
     more_picked = more_is true passes
 
-    pub place_left : length (filter p (take m xs)) ≤ h.free → 0 < g.free
+    pub place_left : length (filter p xs) ≤ h.free → 0 < g.free
     place_left fits =
-        let k = fewer_picked p xs (i + 1) m (omega arith) in
+        let k = fewer_picked p xs (i + 1) (length xs) (omega arith) in
+        let all = ap (λ l. length (filter p l)) (take_all (length xs) xs (omega arith)) in
         let e = ap length more_picked ∙ length_push (filter p (take i xs)) x in
         let g' : g.free ≡ h.free - length (map f (filter p (take i xs))) = ap (λ q. q.free) so_far.held in
-        omega (arith, k, e, g', length-map (filter p (take i xs)) f)
+        omega (arith, k, all, e, g', length-map (filter p (take i xs)) f)
 
-    pub room_left : u.len + ids (filter p (take m xs)) ≤ length u.slots.now → v.len + cond (has_id x) 1 0 ≤ length v.slots.now
-    room_left fits =
-        let k = fewer_ids p xs (i + 1) m (omega arith) in
+    pub room_left : length v.slots.now ≡ length u.slots.now → length (items u) + ids (filter p xs) ≤ length u.slots.now → length (items v) + cond (has_id x) 1 0 ≤ length v.slots.now
+    room_left places fits =
+        let k = fewer_ids p xs (i + 1) (length xs) (omega arith) in
+        let all = ap (λ l. ids (filter p l)) (take_all (length xs) xs (omega arith)) in
         let e = ap ids more_picked ∙ ids_push (filter p (take i xs)) x in
-        let places = so_far.places in
-        let len = so_far.len in
-        omega (arith, k, e)
+        let used = ap length so_far.used ∙ length_marked_all (filter p (take i xs)) (items u) in
+        omega (arith, k, all, e, used)
 
-    pub still_sorted : sorted id_before (items u) ≡ true → sorted id_before (items v) ≡ true
-    still_sorted s = ap (sorted id_before) so_far.used ∙ marked_all_sorted (filter p (take i xs)) (items u) s
+    pub told_one : (v' : Rows UsedId o) (g' : Held) (d : Dispatch) → d ≡ f x → g' ≡ more g d → items v' ≡ marked x (items v) → Told p f xs u v' h g' (n + 1) (i + 1)
+    told_one v' g' d is told used = record {
+      count = omega (arith, so_far.count, ap length more_picked, length_push (filter p (take i xs)) x);
+      held = told ∙ ap (λ q. more q d) so_far.held ∙ told_to_more h (map f (filter p (take i xs))) d
+          ∙ ap (λ e. told_to h (map f (filter p (take i xs)) ++ (e ∷ []))) is
+          ∙ ap (told_to h) (sym (map_push f (filter p (take i xs)) x) ∙ ap (map f) (sym more_picked));
+      used = used ∙ ap (marked x) so_far.used ∙ sym (marked_all_push (filter p (take i xs)) x (items u)) ∙ ap (λ l. marked_all l (items u)) (sym more_picked);
+    }
 
-    pub told_one : (v' : Rows UsedId) (g' : Held) (d : Dispatch) → d ≡ f x → g' ≡ more g d → items v' ≡ marked x (items v) → v'.slots.now ≡ front (marked x (items v)) v.slots.now →
-        length v'.slots.now ≡ length v.slots.now → v'.len ≡ v.len + cond (has_id x) 1 0 → Told p f xs u v' h g' (n + 1) (i + 1)
-    told_one v' g' d is told used slots places len =
-        let ks = filter p (take i xs) in
-        record {
-          count = omega (arith, so_far.count, ap length more_picked, length_push (filter p (take i xs)) x);
-          held = told ∙ ap (λ q. more q d) so_far.held ∙ told_to_more h (map f (filter p (take i xs))) d
-              ∙ ap (λ e. told_to h (map f (filter p (take i xs)) ++ (e ∷ []))) is
-              ∙ ap (told_to h) (sym (map_push f (filter p (take i xs)) x) ∙ ap (map f) (sym more_picked));
-          used = used ∙ ap (marked x) so_far.used ∙ sym (marked_all_push (filter p (take i xs)) x (items u)) ∙ ap (λ l. marked_all l (items u)) (sym more_picked);
-          slots = slots ∙ front_again (marked x (items v)) (items v) u.slots.now v.slots.now so_far.slots (length_marked x (items v)) ∙ ap (λ l. front l u.slots.now) (sym used);
-          places = places ∙ so_far.places;
-          len = omega (arith, so_far.len, len, ap ids more_picked, ids_push (filter p (take i xs)) x);
-        }
-
--- no more are told than were gone through
-pub told_behind : {p : Kept → Bool} {f : Kept → Dispatch} {xs : List Kept} {u v : Rows UsedId} {h g : Held} {n i : ℕ} → Told p f xs u v h g n i → n ≤ i
-told_behind {p = p} {xs = xs} {i = i} so_far =
-    omega (arith, so_far.count, length-filter_both p (fails p) (λ _. refl) (take i xs), length-take i xs)
-
-pub told_none : (p : Kept → Bool) (f : Kept → Dispatch) (xs : List Kept) (u : Rows UsedId) (h : Held) → u.len ≤ length u.slots.now → Told p f xs u u h h 0 0
-told_none p f xs u h l = record {
-  count = refl;
-  held = told_to_none h;
-  used = refl;
-  slots = front_same u.slots.now u.len l;
-  places = refl;
-  len = omega arith;
-}
+pub told_none : {o : _} (p : Kept → Bool) (f : Kept → Dispatch) (xs : List Kept) (u : Rows UsedId o) (h : Held) → Told p f xs u u h h 0 0
+told_none p f xs u h = record { count = refl; held = told_to_none h; used = refl }

@@ -1,4 +1,5 @@
 pub mod Players
 pub mod Rows
 pub mod Sound
+pub mod Tests
 pub mod Values

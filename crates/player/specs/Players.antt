@@ -1,11 +1,10 @@
 -- A player by its values.
 --   state p    what a player holds
 --   Lent p q   q left p's lent tables as they were behind what it holds
-use Rattle.std.specs.Prelude.{◌≡◌, length}
-use Rattle.event.specs.Fronts.{front}
+use Rattle.std.specs.Prelude.{length}
 use Rattle.calls.specs.State.{State}
 use Rattle.player.specs.declared.players.Player.{Player}
-use Rattle.player.specs.Rows.{items}
+use Rattle.player.specs.Rows.{Behind, items}
 
 abbrev pub state : Player → State
 state p = record {
@@ -19,6 +18,4 @@ state p = record {
 }
 
 abbrev pub Lent : Player → Player → Type 0
-Lent p q =
-    (q.kept.slots.now ≡ front (items q.kept) p.kept.slots.now)
-    × (q.used.slots.now ≡ front (items q.used) p.used.slots.now)
+Lent p q = Behind p.kept q.kept × Behind p.used q.used

@@ -1,4 +1,6 @@
 // The player.
+ghost use Rattle.std.specs.Prelude.{length};
+ghost use Rattle.player.specs.Rows.{items};
 ghost use Rattle.player.specs.Sound.{Sound};
 
 use crate::rows::Rows;
@@ -34,5 +36,5 @@ pub struct Player<'a> {
     head: Head,
     kept: Rows<'a, Kept>,
     used: Rows<'a, UsedId>,
-    ghost sound: { Sound head kept used },
+    ghost sound: { Sound head (items kept) (items used) (length used.slots.now) },
 }

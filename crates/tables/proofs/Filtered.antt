@@ -1,5 +1,5 @@
 -- Lists, and what a test picks of them.
-use Rattle.std.proofs.Common.{◌≡◌, ℕ, ◌+◌, ◌<◌, Bool, true, cond, not, List, [], ◌∷◌, length, get_or, take, filter, sym, refl, ap, ◌∙◌, inl, inr, arith}
+use Rattle.std.proofs.Common.{◌≡◌, ℕ, zero, suc, ◌+◌, ◌<◌, ◌≤◌, Bool, true, cond, not, List, [], ◌∷◌, length, get_or, take, filter, sym, refl, ap, ◌∙◌, inl, inr, arith}
 use Rattle.std.proofs.lemmas.List.Filters.{length-filter_more}
 use Rattle.std.proofs.lemmas.Bool.{and_from, and_parts, cases_Bool}
 use Rattle.tables.specs.Tables.{none, placed, sorted}
@@ -20,6 +20,23 @@ sorted_filtered before p (x ∷ xs) h =
       | inl t ↦ rw t (and_from (none (λ y. before y x) (filter p xs)) (sorted before (filter p xs)) (none_filtered p (λ y. before y x) xs parts.0) ih)
       | inr f ↦ rw f ih
     ]
+
+none_take : {X : Type 0} (p : X → Bool) (xs : List X) (k n : ℕ) → k ≤ n → none p (take n xs) ≡ true → none p (take k xs) ≡ true
+none_take p xs zero n b h = refl
+none_take p [] (suc k) n b h = refl
+none_take p (x ∷ xs) (suc k) zero b h = absurd (omega arith)
+none_take p (x ∷ xs) (suc k) (suc n) b h =
+    let parts = and_parts (not (p x)) (none p (take n xs)) h in
+    and_from (not (p x)) (none p (take k xs)) parts.0 (none_take p xs k n (omega arith) parts.1)
+
+-- a shorter front of a list in order
+pub sorted_take : {X : Type 0} (before : X → X → Bool) (xs : List X) (k n : ℕ) → k ≤ n → sorted before (take n xs) ≡ true → sorted before (take k xs) ≡ true
+sorted_take before xs zero n b h = refl
+sorted_take before [] (suc k) n b h = refl
+sorted_take before (x ∷ xs) (suc k) zero b h = absurd (omega arith)
+sorted_take before (x ∷ xs) (suc k) (suc n) b h =
+    let parts = and_parts (none (λ y. before y x) (take n xs)) (sorted before (take n xs)) h in
+    and_from (none (λ y. before y x) (take k xs)) (sorted before (take k xs)) (none_take (λ y. before y x) xs k n (omega arith) parts.0) (sorted_take before xs k n (omega arith) parts.1)
 
 -- counting
 pub counted_more : {X : Type 0} (p : X → Bool) (xs : List X) (i : ℕ) (x : X) (b : Bool) → i < length xs → x ≡ get_or xs i x → p x ≡ b → length (filter p (take (i + 1) xs)) ≡ length (filter p (take i xs)) + cond b 1 0

@@ -1,9 +1,13 @@
 -- What an order gives of a list that is sorted by it.
-use Rattle.std.proofs.Common.{◌≡◌, ℕ, zero, suc, ◌+◌, ◌-◌, ◌<◌, ◌≤◌, Bool, true, false, not, List, [], ◌∷◌, ◌++◌, length, get_or, take, drop, sym, refl, ap, ◌∙◌, inl, inr, arith}
-use Rattle.std.proofs.lemmas.Bool.{and_parts, and_from, not-true, not_from_false, not_from_true, both_ways, cases_Bool, cases_lt}
-use Rattle.std.proofs.lemmas.List.{get_or-take}
+use Rattle.std.proofs.Common.{◌≡◌, ℕ, zero, suc, ◌<◌, ◌≤◌, Bool, true, false, not, List, [], ◌∷◌, ◌++◌, length, get_or, take, drop, sym, refl, ap, ◌∙◌, inl, inr, arith}
+use Rattle.std.proofs.lemmas.Bool.{and_parts, and_from, not_from_false, not_from_true, both_ways, cases_Bool, cases_lt}
+use Rattle.std.specs.Prelude.{Ok, Err, Result, is_ok, cond}
+use Rattle.std.proofs.Common.{Less, Equal, Greater}
+use Rattle.std.specs.declared.cmp.Ordering.{Ordering}
+use Rattle.std.specs.Ordering.{ordering_index}
+use Rattle.std.specs.List.Sorted.{IsBinarySearchResult, IsNonDecreasingBy, IsSearchInRange}
 use Rattle.tables.specs.Tables.{none, any, sorted, tied, placed, leading, prefix}
-use Rattle.tables.proofs.Prefixes.{none_get_or, none_weaker, any_at, any_none, prefix_below, prefix_past, prefix_within}
+use Rattle.tables.proofs.Prefixes.{none_get_or, none_weaker, any_at, any_none}
 
 pub sorted_get_or : {X : Type 0} (before : X → X → Bool) (xs : List X) (i j : ℕ) (d : X) → sorted before xs ≡ true → i < j → j < length xs → before (get_or xs j d) (get_or xs i d) ≡ false
 sorted_get_or before [] i j d h a b = absurd (omega arith)
@@ -30,53 +34,76 @@ module _ {X : Type 0} (before : X → X → Bool)
         | inr f ↦ rw f (sorted_leads x ys parts.1)
       ]
 
-  -- by the last element that x is not before
-  module _ (x : X) (xs : List X) (d : X) (h : sorted before xs ≡ true) where
-    ahead : ℕ
-    ahead = prefix (λ y. not (before x y)) xs
+  -- a search by halving for what is tied with x
+  module _ (x : X) (xs : List X) (h : sorted before xs ≡ true) (order : X → Ordering) (is : (y : X) → order y ≡ cond (before y x) Less (cond (before x y) Greater Equal)) where
+    less : (y : X) → before y x ≡ true → order y ≡ Less
+    less y e = is y ∙ ap (λ b. cond b Less (cond (before x y) Greater Equal)) e
 
-    front_passes : (i : ℕ) → i < ahead → before x (get_or xs i d) ≡ false
-    unfolding ahead
-    front_passes i l = not-true (before x (get_or xs i d)) (prefix_below (λ y. not (before x y)) xs i d l)
+    greater : (y : X) → before x y ≡ true → order y ≡ Greater
+    greater y e = is y ∙ ap (λ b. cond b Less (cond (before x y) Greater Equal)) (opposite x y e) ∙ ap (λ b. cond b Greater Equal) e
 
-    rest_fails : (i : ℕ) → ahead ≤ i → i < length xs → before x (get_or xs i d) ≡ true
-    unfolding ahead
-    rest_fails i l m =
-        let e = prefix_past (λ y. not (before x y)) xs i d (sorted_leads x xs h) l m in
-        elim (cases_Bool (before x (get_or xs i d))) [ inl t ↦ t | inr f ↦ absurd (both_ways (not (before x (get_or xs i d))) e (not_from_false (before x (get_or xs i d)) f)) ]
+    equal : (y : X) → before y x ≡ false → before x y ≡ false → order y ≡ Equal
+    equal y e f = is y ∙ ap (λ b. cond b Less (cond (before x y) Greater Equal)) e ∙ ap (λ b. cond b Greater Equal) f
 
-    untied_behind : (y : X) → before x y ≡ true → tied before x y ≡ false
-    untied_behind y e = rw e
+    index : X → ℕ
+    index y = ordering_index (order y)
 
-    untied_front : (y : X) → before y x ≡ true → tied before x y ≡ false
-    untied_front y e = rw (e, opposite y x e)
+    tied_at : (y : X) → order y ≡ Equal → tied before x y ≡ true
+    tied_at y e =
+        elim (cases_Bool (before x y)) [
+          | inl t ↦ absurd (omega (arith, ap ordering_index (sym e ∙ greater y t)))
+          | inr f ↦ elim (cases_Bool (before y x)) [ inl u ↦ absurd (omega (arith, ap ordering_index (sym e ∙ less y u))) | inr v ↦ rw (f, v) ]
+        ]
 
-    pub none_ahead : prefix (λ y. not (before x y)) xs ≡ 0 → any (tied before x) xs ≡ false
-    unfolding ahead
-    none_ahead z = any_none (tied before x) xs d (λ i l. untied_behind (get_or xs i d) (rest_fails i (omega arith) l))
+    apart_at : (y : X) → (index y ≡ 1 → ⊥) → tied before x y ≡ false
+    unfolding index
+    apart_at y n =
+        elim (cases_Bool (before x y)) [
+          | inl t ↦ rw t
+          | inr f ↦ elim (cases_Bool (before y x)) [ inl u ↦ rw (f, u) | inr v ↦ absurd (n (ap ordering_index (equal y v f))) ]
+        ]
 
-    pub last_tied : 0 < prefix (λ y. not (before x y)) xs → before (get_or xs (prefix (λ y. not (before x y)) xs - 1) d) x ≡ false → any (tied before x) xs ≡ true
-    unfolding ahead
-    last_tied l e =
-        let w = prefix_within (λ y. not (before x y)) xs in
-        let k : ℕ = prefix (λ y. not (before x y)) xs - 1 in
-        let passes = front_passes k (omega arith) in
-        any_at (tied before x) xs k d (omega arith) (rw (passes, e))
+    rises : (y z : X) → before z y ≡ false → index y ≤ index z
+    unfolding index
+    rises y z e =
+        elim (cases_Bool (before z x)) [
+          | inl t ↦ elim (cases_Bool (before y x)) [
+            | inl u ↦ omega (arith, ap ordering_index (less y u), ap ordering_index (less z t))
+            | inr v ↦ absurd (both_ways (before z y) e (further z x y t v))
+          ]
+          | inr f ↦ elim (cases_Bool (before x y)) [
+            | inl u ↦ omega (arith, ap ordering_index (greater y u), ap ordering_index (greater z (further x y z u e)))
+            | inr v ↦ elim (cases_Bool (before x z)) [
+              | inl a ↦ elim (cases_Bool (before y x)) [
+                | inl b ↦ omega (arith, ap ordering_index (greater z a), ap ordering_index (less y b))
+                | inr b ↦ omega (arith, ap ordering_index (greater z a), ap ordering_index (equal y b v))
+              ]
+              | inr a ↦ elim (cases_Bool (before y x)) [
+                | inl b ↦ omega (arith, ap ordering_index (equal z f a), ap ordering_index (less y b))
+                | inr b ↦ omega (arith, ap ordering_index (equal z f a), ap ordering_index (equal y b v))
+              ]
+            ]
+          ]
+        ]
 
-    pub last_before : 0 < prefix (λ y. not (before x y)) xs → before (get_or xs (prefix (λ y. not (before x y)) xs - 1) d) x ≡ true → any (tied before x) xs ≡ false
-    unfolding ahead
-    last_before l e =
-        let w = prefix_within (λ y. not (before x y)) xs in
-        let k : ℕ = prefix (λ y. not (before x y)) xs - 1 in
-        let no-later : (i : ℕ) → i < k + 1 → before (get_or xs k d) (get_or xs i d) ≡ false = λ i b.
-        elim (cases_lt i k) [ inl a ↦ sorted_get_or before xs i k d h a (omega arith) | inr a ↦ let q : i ≡ k = omega arith in rw q (irreflexive (get_or xs k d)) ] in
-        let in-front : (i : ℕ) → i < k + 1 → before (get_or xs i d) x ≡ true = λ i b.
-        elim (cases_Bool (before (get_or xs i d) x)) [ inl t ↦ t | inr f ↦ absurd (both_ways (before (get_or xs k d) (get_or xs i d)) (no-later i b) (further (get_or xs k d) x (get_or xs i d) e f)) ] in
-        any_none (tied before x) xs d (λ i m.
-        elim (cases_lt i (k + 1)) [
-          | inl a ↦ untied_front (get_or xs i d) (in-front i a)
-          | inr a ↦ untied_behind (get_or xs i d) (rest_fails i (omega arith) m)
-        ])
+    rising : IsNonDecreasingBy (λ y. ordering_index (order y)) xs
+    unfolding index
+    rising i j d a b =
+        elim (cases_lt i j) [
+          | inl l ↦ rises (get_or xs i d) (get_or xs j d) (sorted_get_or before xs i j d h l b)
+          | inr l ↦ let e : i ≡ j = omega arith in omega (arith, ap (λ k. ordering_index (order (get_or xs k d))) e)
+        ]
+
+    pub search_decides : (r : Result ℕ ℕ) → IsSearchInRange r (length xs) → IsBinarySearchResult order xs r → is_ok r ≡ any (tied before x) xs
+    unfolding index
+    search_decides (Ok i) within found = sym (any_at (tied before x) xs i x within (tied_at (get_or xs i x) (found x)))
+    search_decides (Err i) within found =
+        let point = found rising in
+        sym (any_none (tied before x) xs x (λ k l. apart_at (get_or xs k x) (λ e.
+        elim (cases_lt k i) [
+          | inl a ↦ omega (arith, e, ap ordering_index (point.0 k x (omega arith) a))
+          | inr a ↦ omega (arith, e, ap ordering_index (point.1 k x a l))
+        ])))
 
   pub none_placed : (p : X → Bool) (x : X) (ys : List X) → p x ≡ false → none p ys ≡ true → none p (placed before x ys) ≡ true
   none_placed p x [] e h = rw e
@@ -112,17 +139,3 @@ placed_at before x (y ∷ ys) =
 pub length_placed : {X : Type 0} (before : X → X → Bool) (x : X) (ys : List X) → length (placed before x ys) ≡ suc (length ys)
 length_placed before x [] = refl
 length_placed before x (y ∷ ys) = elim (cases_Bool (before x y)) [ inl t ↦ rw t | inr f ↦ rw f (ap suc (length_placed before x ys)) ]
-
--- x is tied with an element exactly where the last one that it is not before is not before x
-module _ {X : Type 0} (before : X → X → Bool)
-    (opposite : (x y : X) → before x y ≡ true → before y x ≡ false)
-    (further : (x y z : X) → before x y ≡ true → before z y ≡ false → before x z ≡ true) where
-  pub last_decides : (x : X) (xs : List X) (n k : ℕ) (y : X) → n ≤ length xs → sorted before (take n xs) ≡ true → k ≡ prefix (λ z. not (before x z)) (take n xs) → k ≤ n → (k ≡ 0 → ⊥) →
-      y ≡ get_or xs (k - 1) y → not (before y x) ≡ any (tied before x) (take n xs)
-  last_decides x xs n k y w h e b nz read =
-      let read' : y ≡ get_or (take n xs) (k - 1) y = read ∙ sym (get_or-take n xs (k - 1) y (omega arith)) in
-      let here : get_or (take n xs) (prefix (λ z. not (before x z)) (take n xs) - 1) y ≡ y = ap (λ m. get_or (take n xs) (m - 1) y) (sym e) ∙ sym read' in
-      elim (cases_Bool (before y x)) [
-        | inl t ↦ rw t (sym (last_before before opposite further x (take n xs) y h (omega arith) (ap (λ z. before z x) here ∙ t)))
-        | inr f ↦ rw f (sym (last_tied before opposite further x (take n xs) y h (omega arith) (ap (λ z. before z x) here ∙ f)))
-      ]

@@ -1,7 +1,13 @@
 -- Where a test stops passing.
-use Rattle.std.proofs.Common.{◌≡◌, ℕ, zero, suc, ◌+◌, ◌<◌, ◌≤◌, Bool, true, false, not, List, [], ◌∷◌, ◌++◌, length, get_or, take, sym, refl, ap, ◌∙◌, inl, inr, arith}
-use Rattle.std.proofs.lemmas.Bool.{cond_both, and_parts, not-true, both_ways, cases_Bool}
+use Rattle.std.proofs.Common.{◌≡◌, ℕ, zero, suc, ◌+◌, ◌-◌, ◌<◌, ◌≤◌, Bool, true, false, not, List, [], ◌∷◌, ◌++◌, length, get_or, take, sym, refl, ap, ◌∙◌, inl, inr, arith}
+use Rattle.std.proofs.lemmas.Bool.{cond_both, and_parts, not-true, both_ways, cases_Bool, cases_lt}
 use Rattle.std.proofs.lemmas.List.{get_or-take, length-take-le, length-take, take_more}
+use denote.Ref.{Bor}
+use Rattle.std.specs.Fn.{Called, ComputesKey, Mut}
+use Rattle.std.proofs.lemmas.List.Sorted.{IsPartitionPoint-from_clause}
+use Rattle.std.specs.Prelude.{MatchBool}
+use Rattle.std.specs.List.{AllWithin, HoldsAt}
+use Rattle.std.specs.List.Sorted.{IsPartitionedBy, IsPartitionPoint}
 use Rattle.tables.specs.Tables.{none, any, leading, prefix}
 
 pub none_get_or : {X : Type 0} (p : X → Bool) (xs : List X) (i : ℕ) (d : X) → none p xs ≡ true → i < length xs → p (get_or xs i d) ≡ false
@@ -70,6 +76,14 @@ any_at p xs i d l e =
 pub any_none : {X : Type 0} (p : X → Bool) (xs : List X) (d : X) → ((i : ℕ) → i < length xs → p (get_or xs i d) ≡ false) → any p xs ≡ false
 any_none p xs d h = rw (none_from_get_or p xs d h)
 
+-- what a search from the front answers
+pub any_decided : {X : Type 0} (p : X → Bool) (xs : List X) (r : Bool) →
+    MatchBool r ((k : ℕ) × (k < length xs) × HoldsAt (λ x. p x ≡ true) xs k) (AllWithin (λ x. p x ≡ false) xs 0 (length xs)) → r ≡ any p xs
+any_decided p [] true h = absurd (omega (arith, h.1))
+any_decided p (x ∷ xs) true h = sym (any_at p (x ∷ xs) h.0 x h.1 (h.2 x))
+any_decided p [] false h = refl
+any_decided p (x ∷ xs) false h = sym (any_none p (x ∷ xs) x (λ i l. h i x (omega arith) l))
+
 pub none_weaker : {X : Type 0} (p q : X → Bool) (xs : List X) → ((x : X) → p x ≡ false → q x ≡ false) → none p xs ≡ true → none q xs ≡ true
 none_weaker p q [] f h = refl
 none_weaker p q (x ∷ xs) f h =
@@ -91,3 +105,21 @@ none_more p xs i x l read h e =
 pub any_taken : {X : Type 0} (p : X → Bool) (xs : List X) (n i : ℕ) (x : X) → n ≤ length xs → i < n → x ≡ get_or xs i x → p x ≡ true → any p (take n xs) ≡ true
 any_taken p xs n i x w l read e =
     any_at p (take n xs) i x (rw (length-take-le n xs w) l) (ap p (get_or-take n xs i x l ∙ sym read) ∙ e)
+
+-- what passes p stands in front, as a search by halving asks it
+leading_partitioned : {X : Type 0} (p : X → Bool) (xs : List X) → leading p xs ≡ true → IsPartitionedBy p xs
+leading_partitioned p xs h i j d a b e = prefix_below p xs i d (let k = prefix_passes p xs j d h b e in omega arith)
+
+-- and the place that the search finds
+point_is_prefix : {X : Type 0} (p : X → Bool) (xs : List X) (i : ℕ) → leading p xs ≡ true → i ≤ length xs → IsPartitionPoint (λ y. p y ≡ true) (λ y. p y ≡ false) xs i → i ≡ prefix p xs
+point_is_prefix p [] i h b point = omega arith
+point_is_prefix p (x ∷ xs) i h b point =
+    let within = prefix_within p (x ∷ xs) in
+    let not_past : prefix p (x ∷ xs) ≤ i = elim (cases_lt i (length (x ∷ xs))) [ inl l ↦ prefix_fails p (x ∷ xs) i x l (point.1 i x (omega arith) l) | inr l ↦ omega arith ] in
+    let passes : (k : ℕ) → k < i → k < prefix p (x ∷ xs) = λ k l. prefix_passes p (x ∷ xs) k x h (omega arith) (point.0 k x (omega arith) l) in
+    elim (cases_lt 0 i) [ inl l ↦ (let k = passes (i - 1) (omega arith) in omega arith) | inr l ↦ omega arith ]
+
+pub search_prefix : {X : Type 0} (p : X → Bool) (xs : List X) → leading p xs ≡ true → {F : Type 0} {g : Mut F (Bor X × Unit {0}) Bool} {f : F} (i : ℕ) → i ≤ length xs →
+    ((q : X → Bool) → ComputesKey g q f → IsPartitionedBy q xs → IsPartitionPoint (λ y. q y ≡ true) (λ y. q y ≡ false) xs i) →
+    ((a : Bor X × Unit {0}) (r : Bool) (f' : F) → Called g f a r f' → (r ≡ p a.0.now) × (f' ≡ f)) → i ≡ prefix p xs
+search_prefix p xs leads i bound found calls = point_is_prefix p xs i leads bound (IsPartitionPoint-from_clause p xs i found (leading_partitioned p xs leads) calls)

@@ -1,5 +1,6 @@
 -- The orders of kept events and of used ids.
-use Rattle.std.proofs.Common.{◌≡◌, true, false, List, arith}
+use Rattle.std.proofs.Common.{◌≡◌, true, false, cond, List, Less, Equal, Greater, arith}
+use Rattle.std.specs.Ordering.{nat_cmp, ordering_then}
 use Rattle.std.proofs.lemmas.Bool.Decides.{nat_tests}
 use Rattle.tables.specs.declared.elements.Kept.{Kept}
 use Rattle.tables.specs.declared.elements.UsedId.{UsedId}
@@ -24,3 +25,7 @@ kept_placed_sorted k ks h = placed_sorted earlier earlier_opposite earlier_furth
 
 pub id_placed_sorted : (n : UsedId) (u : List UsedId) → sorted id_before u ≡ true → sorted id_before (placed id_before n u) ≡ true
 id_placed_sorted n u h = placed_sorted id_before id_opposite id_further n u h
+
+-- the derived order of used ids is this one
+pub id_order : (n y : UsedId) → ordering_then (nat_cmp y.stream n.stream) (nat_cmp y.id n.id) ≡ cond (id_before y n) Less (cond (id_before n y) Greater Equal)
+id_order n y = grind (arith, nat_tests)

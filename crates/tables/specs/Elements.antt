@@ -8,10 +8,11 @@
 --   has_id k           an event with an id
 --   active_at t k      the event is active at t
 --   name_of s i        the id i in the stream s
+--   name k             the id of an event in its stream, if it has one
 --   used_as s i n      a used id that is this one
 --   kept_as s i k      a kept event with this id, of this stream
 --   dispatched t m k   the dispatch of an event at t
-use Rattle.std.specs.Prelude.{ℕ, Bool, false, cond, ◌&&◌, is_some, Some, None, Option, ◌==◌, nat_lt}
+use Rattle.std.specs.Prelude.{ℕ, Bool, false, cond, ◌&&◌, is_some, Some, None, Option, option_map, ◌==◌, nat_lt}
 use Rattle.event.specs.declared.dispatches.Dispatch.{Dispatch}
 use Rattle.event.specs.declared.events.Event.{Event}
 use Rattle.event.specs.declared.modes.Trigger.{Trigger}
@@ -51,6 +52,9 @@ active_at t k = active k.span t
 
 abbrev pub name_of : ℕ → ℕ → UsedId
 name_of s i = record { stream = s; id = i }
+
+abbrev pub name : Kept → Option UsedId
+name k = option_map (name_of k.stream) k.id
 
 abbrev pub used_as : ℕ → ℕ → UsedId → Bool
 used_as s i = tied id_before (name_of s i)

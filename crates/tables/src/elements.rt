@@ -14,7 +14,7 @@ pub struct Kept {
 }
 
 // An id that was dispatched on start, in its stream.
-#[derive(Clone, Copy, PartialEq, Eq, Debug)]
+#[derive(Clone, Copy, PartialEq, Eq, PartialOrd, Ord, Debug)]
 pub struct UsedId {
     pub stream: u8,
     pub id: u32,

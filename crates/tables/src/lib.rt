@@ -1,8 +1,7 @@
-// What the player's two tables hold: kept events and used ids, their orders, and the tests by which the calls pick among them.
+// What the player's two tables hold: kept events and used ids, and their orders.
 #![tactic(auto)]
 
 pub mod elements;
 pub mod orders;
-pub mod picks;
 
 pub use elements::{Kept, UsedId};

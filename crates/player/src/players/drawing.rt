@@ -1,21 +1,16 @@
 // Drawing events from a feed.
-ghost use Rattle.std.specs.Prelude.{◌≡◌, ◌+◌, ◌<◌, ◌≤◌, true, false, length, is_ok, if◌then◌else◌};
-ghost use Rattle.event.specs.Fronts.{front};
+ghost use Rattle.std.specs.Prelude.{◌≡◌, ◌<◌, false, is_ok};
 ghost use Rattle.event.specs.Numbers.{answer};
 ghost use Rattle.event.specs.Sinks.{Held, more};
-ghost use Rattle.calls.specs.Draws.{draws, keeps, known, marked, no_id_place, on_start, receives, telling, tells_now};
+ghost use Rattle.calls.specs.Draws.{draws, keeps, known, no_id_place, on_start, receives, telling, tells_now};
 ghost use Rattle.player.specs.Players.{Lent, state};
 ghost use Rattle.calls.specs.State.{State};
-ghost use Rattle.tables.specs.Tables.{sorted};
-ghost use Rattle.tables.specs.Elements.{active_at, has_id, id_before};
-ghost use Rattle.player.specs.Rows.{items};
+ghost use Rattle.tables.specs.Elements.{active_at};
 
 use super::Player;
-use crate::rows::Rows;
 use calls::Drawn;
 use event::{Dispatch, Event, Feed, Mode, Refusal, Sink, Trigger};
-use tables::elements::methods::Named;
-use tables::{Kept, UsedId};
+use tables::Kept;
 
 // Tells a sink that has a free place.
 pub(crate) fn tell_free<S: Sink>(sink: &mut S, dispatch: Dispatch)
@@ -37,39 +32,15 @@ pub(crate) fn tell_received<S: Sink>(dispatch: Dispatch, sink: &mut S) -> Result
     Ok(Drawn::Dispatched)
 }
 
-// Marks the id of an event as used, if it has one.
-pub(crate) fn mark(used: &mut Rows<UsedId>, event: Kept)
-    requires room { used.old.len + (if has_id event then 1 else 0) ≤ length used.old.slots.now }
-    requires sorted { sorted id_before (items used.old) ≡ true }
-    ensures items { items used.new ≡ marked event (items used.old) }
-    ensures slots { used.new.slots.now ≡ front (marked event (items used.old)) used.old.slots.now }
-    ensures places { length used.new.slots.now ≡ length used.old.slots.now }
-    ensures len { used.new.len ≡ used.old.len + (if has_id event then 1 else 0) }
-{
-    match event.id {
-        None => {}
-        Some(id) => used.insert(UsedId {
-            stream: event.stream,
-            id,
-        }),
-    }
-}
-
 impl Player<'_> {
     // Whether the event's id is used or kept in its stream.
     pub(crate) fn knows(&self, event: Kept) -> bool
         ensures { result ≡ known event (state self.now) }
     {
-        match event.id {
-            None => false,
-            Some(id) => {
-                let name = UsedId {
-                    stream: event.stream,
-                    id,
-                };
-                self.used.holds(name) || self.kept.has(&Named { name })
-            }
-        }
+        let Some(name) = event.name() else {
+            return false;
+        };
+        self.used.holds(name) || self.kept.names(name)
     }
 
     // Whether the event has an id and no place is left for it.
@@ -112,7 +83,7 @@ impl Player<'_> {
             return Err(Refusal::NoFreePlace);
         }
         tell_free(sink, event.dispatch(self.head.playhead, Trigger::Start));
-        mark(&mut self.used, event);
+        self.used.mark(event);
         Ok(Drawn::Dispatched)
     }
 

@@ -7,7 +7,7 @@ ghost use Rattle.player.specs.Players.{Lent, state};
 
 use super::Player;
 use event::{Mode, Refusal};
-use tables::picks::{InStream, WithId};
+use tables::UsedId;
 
 impl Player<'_> {
     // The mode of a stream; off outside the catalogue.
@@ -52,11 +52,9 @@ impl Player<'_> {
         if self.mode(stream) == Mode::Off {
             return Err(Refusal::NotFollowed);
         }
-        let before = self.kept.len;
-        self.kept.remove(&InStream { stream });
-        self.used.remove(&InStream { stream });
-        self.head.kept_ids = self.kept.count(&WithId);
+        let forgotten = self.forget(|event| event.stream == stream);
+        self.used.remove(&|name: &UsedId| name.stream == stream);
         self.head.modes[stream as usize] = Mode::Off;
-        Ok(before - self.kept.len)
+        Ok(forgotten)
     }
 }

@@ -20,7 +20,7 @@ impl<'a> Tables<'a> {
     pub fn new(kept: &'a mut [Kept], used: &'a mut [UsedId]) -> Result<Tables<'a>, Refusal>
         ensures cases { MatchResult result (λ t. (tables_fit (length kept.old) (length used.old) ≡ true) × (t.kept.now ≡ kept.old) × (t.used.now ≡ used.old)) (λ e. (tables_fit (length kept.old) (length used.old) ≡ false) × (refusal {X = Unit {0}} e ≡ refused 15)) }
     {
-        if kept.len() < 1 || kept.len() > 256 || used.len() < 1 || used.len() > 1024 {
+        if !(1..=256).contains(&kept.len()) || !(1..=1024).contains(&used.len()) {
             return Err(Refusal::TableSize);
         }
         Ok(Tables { kept, used })

@@ -1,51 +1,41 @@
 // Playing kept events.
-ghost use Rattle.std.specs.Prelude.{◌≡◌, ◌+◌, ◌≤◌, true, false, map, length, is_ok, IfOk, filter};
-ghost use Rattle.event.specs.declared.modes.Trigger.TheVariants.{Start};
-ghost use Rattle.event.specs.Fronts.{front};
+ghost use Rattle.std.specs.Prelude.{◌≡◌, ◌+◌, ◌≤◌, false, map, length, is_ok, IfOk, filter};
 ghost use Rattle.event.specs.Numbers.{answer};
-ghost use Rattle.event.specs.Times.{time};
-ghost use Rattle.tables.specs.Elements.{dispatched, id_before};
 ghost use Rattle.calls.specs.Plays.{Furthest, marked_all, moved, plays, reach, told_by, told_to};
-ghost use Rattle.player.specs.Rows.{items};
+ghost use Rattle.player.specs.Rows.{Behind, items};
 ghost use Rattle.calls.specs.Seeks.{seeks};
 ghost use Rattle.player.specs.Players.{Lent, state};
 ghost use Rattle.calls.specs.State.{ids};
-ghost use Rattle.tables.specs.Tables.{sorted};
+ghost use Rattle.player.specs.Tests.{Pick, Picks};
 
 use super::Player;
-use super::drawing::{mark, tell_free};
+use super::drawing::tell_free;
 use crate::rows::Rows;
 use calls::Played;
 use event::{Refusal, Sink, Time, Trigger};
-use tables::orders::Test;
-use tables::picks::{ActiveAt, Pick, StartsBy, StartsIn};
 use tables::{Kept, UsedId};
 
-// Tells the kept events that a pick takes, in their order, and marks their ids as used.
-pub(crate) fn tell_picked<P: Pick, S: Sink>(
-    kept: &Rows<Kept>,
+// Tells the kept events that pass a test, in their order and each at its position, and marks their ids as used.
+pub(crate) fn tell_picked<F: Fn(&Kept) -> bool, P: Fn(&Kept) -> Time, S: Sink>(
+    kept: &[Kept],
     used: &mut Rows<UsedId>,
-    pick: &P,
+    picks: &F,
+    position: &P,
     sink: &mut S,
 ) -> usize
-    requires within { kept.now.len ≤ length kept.now.slots.now }
-    requires free { length (filter (P.passing pick.now) (items kept.now)) ≤ (S.held sink.old).free }
-    requires room { used.old.len + ids (filter (P.passing pick.now) (items kept.now)) ≤ length used.old.slots.now }
-    requires sorted { sorted id_before (items used.old) ≡ true }
-    ensures value { result ≡ length (filter (P.passing pick.now) (items kept.now)) }
-    ensures told { S.held sink.new ≡ told_to (S.held sink.old) (map (told_by (P.told_at pick.now)) (filter (P.passing pick.now) (items kept.now))) }
-    ensures items { items used.new ≡ marked_all (filter (P.passing pick.now) (items kept.now)) (items used.old) }
-    ensures slots { used.new.slots.now ≡ front (items used.new) used.old.slots.now }
-    ensures places { length used.new.slots.now ≡ length used.old.slots.now }
-    ensures len { used.new.len ≡ used.old.len + ids (filter (P.passing pick.now) (items kept.now)) }
+    requires picks_callable { F.IsAlwaysCallable picks.now }
+    requires position_callable { P.IsAlwaysCallable position.now }
+    requires fits { (t : Pick) × Picks F.Fn P.Fn t picks.now position.now × (length (filter t.passes kept.now) ≤ (S.held sink.old).free) × (length (items used.old) + ids (filter t.passes kept.now) ≤ length used.old.slots.now) }
+    ensures value { (t : Pick) → Picks F.Fn P.Fn t picks.now position.now → result ≡ length (filter t.passes kept.now) }
+    ensures told { (t : Pick) → Picks F.Fn P.Fn t picks.now position.now → S.held sink.new ≡ told_to (S.held sink.old) (map (told_by t.told_at) (filter t.passes kept.now)) }
+    ensures items { (t : Pick) → Picks F.Fn P.Fn t picks.now position.now → items used.new ≡ marked_all (filter t.passes kept.now) (items used.old) }
+    ensures behind { Behind used.old used.new }
 {
-    let slots = &*kept.slots;
     let mut told = 0;
-    for i in 0..kept.len {
-        let event = slots[i];
-        if pick.passes(event) {
-            tell_free(sink, event.dispatch(pick.position(event), Trigger::Start));
-            mark(used, event);
+    for event in kept {
+        if picks(event) {
+            tell_free(sink, event.dispatch(position(event), Trigger::Start));
+            used.mark(*event);
             told += 1;
         }
     }
@@ -53,17 +43,24 @@ pub(crate) fn tell_picked<P: Pick, S: Sink>(
 }
 
 impl Player<'_> {
-    // Tells the kept events that a pick takes; they are no longer kept and their ids are used.
-    pub(crate) fn tell_kept<P: Pick, S: Sink>(&mut self, pick: &P, sink: &mut S) -> usize
-        requires { length (filter (P.passing pick.now) (state self.old).kept) ≤ (S.held sink.old).free }
-        ensures value { result ≡ length (filter (P.passing pick.now) (state self.old).kept) }
-        ensures after { state self.new ≡ moved (state self.old).playhead (P.passing pick.now) (state self.old) }
-        ensures told { S.held sink.new ≡ told_to (S.held sink.old) (map (told_by (P.told_at pick.now)) (filter (P.passing pick.now) (state self.old).kept)) }
+    // Tells the kept events that pass a test, each at its position; they are no longer kept and their ids are used.
+    pub(crate) fn tell_kept<F: Fn(&Kept) -> bool, P: Fn(&Kept) -> Time, S: Sink>(
+        &mut self,
+        picks: F,
+        position: P,
+        sink: &mut S,
+    ) -> usize
+        requires picks_callable { F.IsAlwaysCallable picks }
+        requires position_callable { P.IsAlwaysCallable position }
+        requires fits { (t : Pick) × Picks F.Fn P.Fn t picks position × (length (filter t.passes (state self.old).kept) ≤ (S.held sink.old).free) }
+        ensures value { (t : Pick) → Picks F.Fn P.Fn t picks position → result ≡ length (filter t.passes (state self.old).kept) }
+        ensures after { (t : Pick) → Picks F.Fn P.Fn t picks position → state self.new ≡ moved (state self.old).playhead t.passes (state self.old) }
+        ensures told { (t : Pick) → Picks F.Fn P.Fn t picks position → S.held sink.new ≡ told_to (S.held sink.old) (map (told_by t.told_at) (filter t.passes (state self.old).kept)) }
         ensures lent { Lent self.old self.new }
     {
         let used = self.used.len;
-        let told = tell_picked(&self.kept, &mut self.used, pick, sink);
-        self.kept.remove(pick);
+        let told = tell_picked(self.kept.items(), &mut self.used, &picks, &position, sink);
+        self.kept.remove(&picks);
         self.head.kept_ids -= self.used.len - used;
         told
     }
@@ -72,17 +69,17 @@ impl Player<'_> {
     pub(crate) fn reach(&self, to: Time, free: usize) -> Time
         ensures { result.ms ≡ reach (state self.now) free to.ms }
     {
-        let first = self.kept.ahead(&StartsBy {
-            time: self.head.playhead,
-        });
-        if free < self.kept.len - first {
-            let slots = &*self.kept.slots;
-            let start = slots[first + free].span.start;
-            if start.ms() <= to.ms() {
-                return start.before();
-            }
+        let kept = self.kept.items();
+        let playhead = self.head.playhead;
+        let first = kept.partition_point(|event| event.span.start <= playhead);
+        let Some(event) = kept[first..].get(free) else {
+            return to;
+        };
+        if event.span.start <= to {
+            event.span.start.before()
+        } else {
+            to
         }
-        to
     }
 
     // Plays to a time: tells what starts after the playhead and up to it, as far as the sink has places for all of one start.
@@ -92,18 +89,14 @@ impl Player<'_> {
         ensures lent { Lent self.old self.new }
         ensures same { is_ok result ≡ false → (self.new ≡ self.old) × (sink.new ≡ sink.old) }
     {
-        let Some(target) = Time::new(to) else {
-            return Err(Refusal::TargetPastLatest);
-        };
-        if target.ms() < self.head.playhead.ms() {
+        let target = Time::new(to).ok_or(Refusal::TargetPastLatest)?;
+        let after = self.head.playhead;
+        if target < after {
             return Err(Refusal::BehindPlayhead);
         }
         let playhead = self.reach(target, sink.free_places());
-        let due = StartsIn {
-            after: self.head.playhead,
-            up_to: playhead,
-        };
-        let told = self.tell_kept(&due, sink);
+        let due = |event: &Kept| { after < event.span.start && event.span.start <= playhead };
+        let told = self.tell_kept(due, |event| event.span.start, sink);
         self.head.playhead = playhead;
         Ok(Played { told, playhead })
     }
@@ -114,14 +107,12 @@ impl Player<'_> {
         ensures lent { Lent self.old self.new }
         ensures same { is_ok result ≡ false → (self.new ≡ self.old) × (sink.new ≡ sink.old) }
     {
-        let Some(target) = Time::new(to) else {
-            return Err(Refusal::TargetPastLatest);
-        };
-        let active = ActiveAt { time: target };
-        if sink.free_places() < self.kept.count(&active) {
+        let target = Time::new(to).ok_or(Refusal::TargetPastLatest)?;
+        let active = |event: &Kept| event.span.is_active(target);
+        if sink.free_places() < self.kept.count_active(target) {
             return Err(Refusal::NoFreePlace);
         }
-        let told = self.tell_kept(&active, sink);
+        let told = self.tell_kept(active, |_event| target, sink);
         self.head.playhead = target;
         Ok(told)
     }

@@ -1,49 +1,57 @@
 // Changing a table.
-ghost use Rattle.std.specs.Prelude.{◌≡◌, ◌+◌, ◌<◌, ◌≤◌, true, length};
-ghost use Rattle.event.specs.Fronts.{front};
-ghost use Rattle.tables.specs.Tables.{placed, sorted, without};
-ghost use Rattle.player.specs.Rows.{items};
+ghost use Rattle.std.specs.Prelude.{◌≡◌, ◌+◌, ◌<◌, ◌≤◌, Bool, length, if◌then◌else◌};
+ghost use Rattle.calls.specs.Draws.{marked};
+ghost use Rattle.tables.specs.Elements.{has_id};
+ghost use Rattle.tables.specs.Tables.{placed, without};
+ghost use Rattle.player.specs.Rows.{Behind, items};
+ghost use Rattle.player.specs.Tests.{Computes};
 
 use super::Rows;
-use tables::orders::{Ordered, Test, UpTo};
+use tables::orders::Ordered;
+use tables::{Kept, UsedId};
 
 impl<T: Ordered> Rows<'_, T> {
     // Puts x in front of the first element that it is before.
     pub(crate) fn insert(&mut self, x: T)
-        requires room { self.old.len < length self.old.slots.now }
-        requires sorted { sorted T.before (items self.old) ≡ true }
+        requires { self.old.len < length self.old.slots.now }
         ensures items { items self.new ≡ placed T.before x (items self.old) }
-        ensures ordered { sorted T.before (items self.new) ≡ true }
-        ensures slots { self.new.slots.now ≡ front (placed T.before x (items self.old)) self.old.slots.now }
-        ensures places { length self.new.slots.now ≡ length self.old.slots.now }
-        ensures len { self.new.len ≡ self.old.len + 1 }
+        ensures behind { Behind self.old self.new }
     {
-        let count = self.ahead(&UpTo { value: x });
+        let place = self.items().partition_point(|y| !x.is_before(*y));
         let len = self.len;
         self.slots[len] = x;
-        self.slots[count..len + 1].rotate_right(1);
+        self.slots[place..=len].rotate_right(1);
         self.len = len + 1;
+    }
+
+    // Removes what passes a test; the rest moves to the front, in its order.
+    pub(crate) fn remove<F: Fn(&T) -> bool>(&mut self, test: &F)
+        requires callable { F.IsAlwaysCallable test.now }
+        requires computes { (p : T → Bool) × Computes F.Fn p test.now }
+        ensures items { (p : T → Bool) → Computes F.Fn p test.now → items self.new ≡ without p (items self.old) }
+        ensures behind { Behind self.old self.new }
+    {
+        let len = self.len;
+        self.len = 0;
+        for i in 0..len {
+            let x = self.slots[i];
+            if !test(&x) {
+                self.slots[self.len] = x;
+                self.len += 1;
+            }
+        }
     }
 }
 
-impl<T: Copy> Rows<'_, T> {
-    // Removes what passes a test; the rest moves to the front, in its order.
-    pub(crate) fn remove<P: Test<T>>(&mut self, test: &P)
-        requires within { self.old.len ≤ length self.old.slots.now }
-        ensures items { items self.new ≡ without (P.passing test.now) (items self.old) }
-        ensures slots { self.new.slots.now ≡ front (without (P.passing test.now) (items self.old)) self.old.slots.now }
-        ensures places { length self.new.slots.now ≡ length self.old.slots.now }
-        ensures len { self.new.len ≡ length (without (P.passing test.now) (items self.old)) }
+impl Rows<'_, UsedId> {
+    // Marks the id of an event as used, if it has one.
+    pub(crate) fn mark(&mut self, event: Kept)
+        requires { length (items self.old) + (if has_id event then 1 else 0) ≤ length self.old.slots.now }
+        ensures items { items self.new ≡ marked event (items self.old) }
+        ensures behind { Behind self.old self.new }
     {
-        let len = self.len;
-        let mut left = 0;
-        for i in 0..len {
-            let x = self.slots[i];
-            if !test.passes(x) {
-                self.slots[left] = x;
-                left += 1;
-            }
+        if let Some(name) = event.name() {
+            self.insert(name);
         }
-        self.len = left;
     }
 }

@@ -1,10 +1,10 @@
 // How kept events and used ids are made, ordered and told.
 ghost use Rattle.std.specs.Prelude.{◌≡◌};
-ghost use Rattle.tables.specs.Elements.{dispatched, earlier, id_before, kept_of, named};
+ghost use Rattle.tables.specs.Elements.{dispatched, earlier, id_before, kept_of, name, named};
 ghost use Rattle.std.proofs.Common.{rules};
 
 use super::{Kept, UsedId};
-use crate::orders::{Ordered, Test};
+use crate::orders::Ordered;
 use event::{Dispatch, Event, Time, Trigger};
 
 impl Kept {
@@ -51,14 +51,21 @@ impl Kept {
         }
     }
 
-    // Whether it is an event of this stream with this id.
-    pub fn is_named(self, name: UsedId) -> bool
-        ensures { result ≡ named name self }
+    // Its id in its stream, if it has one.
+    pub fn name(&self) -> Option<UsedId>
+        ensures { result ≡ name self.now }
     {
-        match self.id {
-            None => false,
-            Some(id) => id == name.id && self.stream == name.stream,
-        }
+        self.id.map(|id| UsedId {
+            stream: self.stream,
+            id,
+        })
+    }
+
+    // Whether it is an event of this stream with this id.
+    pub fn is_named(&self, name: UsedId) -> bool
+        ensures { result ≡ named name self.now }
+    {
+        self.name() == Some(name)
     }
 }
 
@@ -75,13 +82,7 @@ impl Ordered for Kept {
     ghost further = { Prim.search rules };
 
     fn is_before(self, other: Kept) -> bool {
-        let start = self.span.start.ms();
-        let other_start = other.span.start.ms();
-        if start == other_start {
-            self.arrival.ms() < other.arrival.ms()
-        } else {
-            start < other_start
-        }
+        (self.span.start, self.arrival) < (other.span.start, other.arrival)
     }
 }
 
@@ -93,24 +94,6 @@ impl Ordered for UsedId {
     ghost further = { Prim.search rules };
 
     fn is_before(self, other: UsedId) -> bool {
-        if self.stream == other.stream {
-            self.id < other.id
-        } else {
-            self.stream < other.stream
-        }
-    }
-}
-
-// Passes the kept events of one name.
-#[derive(Clone, Copy)]
-pub struct Named {
-    pub name: UsedId,
-}
-
-impl Test<Kept> for Named {
-    ghost passing = { λ t. named t.name };
-
-    fn passes(&self, x: Kept) -> bool {
-        x.is_named(self.name)
+        self < other
     }
 }

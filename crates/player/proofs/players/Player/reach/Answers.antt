@@ -1,36 +1,50 @@
-use Rattle.std.proofs.Common.{◌≡◌, ◌-◌, sym, ap, ◌∙◌, arith}
+use Rattle.std.proofs.Common.{◌≡◌, ◌-◌, drop, filter, sym, ap, ◌∙◌, arith, rules}
+use Rattle.std.proofs.lemmas.Bool.{ltb-false, ltb-true}
 use Rattle.event.proofs.Clock.{ms_time}
-use Rattle.tables.specs.Elements.{starts}
-use Rattle.player.specs.Rows.{items}
-use Rattle.player.proofs.Soundness.{items_length}
-use Rattle.calls.proofs.Reaching.{starts_lead, reach_all, reaches_target, halts_before}
+use Rattle.tables.specs.Elements.{earlier, starts}
+use Rattle.tables.specs.Picks.{starts_by, starts_in}
+use Rattle.tables.specs.Tables.{sorted}
+use Rattle.tables.proofs.Prefixes.{search_prefix}
+use Rattle.calls.specs.Plays.{reach_before}
+use Rattle.calls.proofs.Reaching.{all_reached, halts_before, reaches_target, starts_lead}
+use Rattle.player.proofs.Times.{behind, up_to}
 use Rattle.player.proofs.players.Player.reach.Goals as goal
 
-pub ahead-first-requires : goal.ahead-first-requires
-ahead-first-requires c =
+pub returns-in_default : goal.returns-in_default
+returns-in_default c =
     let p = c.args.self.now in
-    record { within = p.sound.0.0; leading = starts_lead _ (items p.kept) p.sound.1.0 }
+    let ks = c.items-kept.result.now in
+    let a = p.head.playhead.ms in
+    let ordered = ap (sorted earlier) c.items-kept.ensures ∙ p.kept.ordered in
+    let point = c.partition_point-first in
+    let first = search_prefix (starts_by a) ks (starts_lead a ks ordered) point.result point.ensures.bound point.ensures.partitioned (λ x r f' q. search rules) in
+    all_reached a c.args.to.ms c.args.free ks ordered point.result first (ltb-false _ _ (sym c.in_default.ensures.lookup.0))
+    ∙ ap (λ l. reach_before (drop c.args.free (filter (starts_in a c.args.to.ms) l)) c.args.to.ms) c.items-kept.ensures
 
-pub returns-then-ms : goal.returns-then-ms
-returns-then-ms c =
+pub returns-then-le : goal.returns-then-le
+returns-then-le c =
     let p = c.args.self.now in
-    let k = c.index-slots-first.result in
-    let start : starts k ≡ c.ms.result = ap starts c.index-slots-first.is ∙ sym c.ms.ensures in
-    let before : c.before-then-ms.result.ms ≡ starts k - 1 =
-    ap (λ t. t.ms) c.before-then-ms.ensures ∙ ms_time _ (omega (arith, k.span.start.bounded, start)) ∙ ap (λ n. n - 1) (sym c.ms.ensures ∙ sym start) in
-    before ∙ halts_before p.head.playhead.ms c.args.to.ms c.args.free p.kept.slots.now p.kept.len c.ahead-first.result k
-    p.sound.0.0 p.sound.1.0 c.ahead-first.ensures.value (omega arith) c.index-slots-first.is (omega (arith, start, c.ms-then-free-self.ensures))
+    let ks = c.items-kept.result.now in
+    let a = p.head.playhead.ms in
+    let k = c.in-Some.event.now in
+    let ordered = ap (sorted earlier) c.items-kept.ensures ∙ p.kept.ordered in
+    let point = c.partition_point-first in
+    let first = search_prefix (starts_by a) ks (starts_lead a ks ordered) point.result point.ensures.bound point.ensures.partitioned (λ x r f' q. search rules) in
+    let before : c.before-then-le.result.ms ≡ starts k - 1 = ap (λ t. t.ms) c.before-then-le.ensures ∙ ms_time _ (omega (arith, k.span.start.bounded)) in
+    let found = c.in-Some.ensures.lookup in
+    before
+    ∙ halts_before a c.args.to.ms c.args.free ks ordered point.result first k (ltb-true _ _ (sym found.0)) found.1 (up_to (starts k) c.args.to.ms c.if-le.ensures)
+    ∙ ap (λ l. reach_before (drop c.args.free (filter (starts_in a c.args.to.ms) l)) c.args.to.ms) c.items-kept.ensures
 
-pub returns-else-ms : goal.returns-else-ms
-returns-else-ms c =
+pub returns-else-le : goal.returns-else-le
+returns-else-le c =
     let p = c.args.self.now in
-    let k = c.index-slots-first.result in
-    let start : starts k ≡ c.ms.result = ap starts c.index-slots-first.is ∙ sym c.ms.ensures in
-    reaches_target p.head.playhead.ms c.args.to.ms c.args.free p.kept.slots.now p.kept.len c.ahead-first.result k
-    p.sound.0.0 p.sound.1.0 c.ahead-first.ensures.value (omega arith) c.index-slots-first.is (omega (arith, start, c.ms-then-free-self.ensures))
-
-pub returns-else-free-self : goal.returns-else-free-self
-returns-else-free-self c =
-    let p = c.args.self.now in
-    reach_all p.head.playhead.ms c.args.to.ms c.args.free (items p.kept) p.sound.1.0
-    (omega (arith, items_length p.kept p.sound.0.0, c.ahead-first.ensures.value))
+    let ks = c.items-kept.result.now in
+    let a = p.head.playhead.ms in
+    let k = c.in-Some.event.now in
+    let ordered = ap (sorted earlier) c.items-kept.ensures ∙ p.kept.ordered in
+    let point = c.partition_point-first in
+    let first = search_prefix (starts_by a) ks (starts_lead a ks ordered) point.result point.ensures.bound point.ensures.partitioned (λ x r f' q. search rules) in
+    let found = c.in-Some.ensures.lookup in
+    reaches_target a c.args.to.ms c.args.free ks ordered point.result first k (ltb-true _ _ (sym found.0)) found.1 (behind (starts k) c.args.to.ms c.if-le.ensures)
+    ∙ ap (λ l. reach_before (drop c.args.free (filter (starts_in a c.args.to.ms) l)) c.args.to.ms) c.items-kept.ensures

@@ -1,28 +1,51 @@
-use Rattle.std.proofs.Common.{◌-◌, refl, arith}
+use Rattle.std.proofs.Common.{◌-◌, length, filter, refl, ap, ◌∙◌, arith}
 use Rattle.player.specs.declared.players.Head.{Head}
-use Rattle.player.proofs.Soundness.{tell_fewer, tell_room, tell_sound}
+use Rattle.calls.specs.Plays.{marked_all}
+use Rattle.calls.specs.State.{ids}
+use Rattle.player.specs.Rows.{items}
+use Rattle.player.proofs.Soundness.{items_length, tell_fewer, tell_more, tell_room, tell_sound}
 use Rattle.player.proofs.players.Player.tell_kept.Goals as goal
 
-pub tell_picked-told-requires : goal.tell_picked-told-requires
-tell_picked-told-requires g c =
+pub tell_picked-told-requires-clause-fits : goal.tell_picked-told-requires-clause-fits
+tell_picked-told-requires-clause-fits g c =
+    let fits = c.requires.fits in
     let p = c.args.self.now in
-    record { within = p.sound.0.0; free = c.requires; room = tell_room p (g.P.Test.passing c.args.pick.now); sorted = p.sound.1.1 }
+    let picked = ap (filter fits.0.passes) c.items.ensures in
+    (fits.0, fits.1, omega (arith, fits.2, ap length picked), omega (arith, tell_room p fits.0.passes, ap ids picked))
+
+pub overflow_sub-self : goal.overflow_sub-self
+overflow_sub-self g c =
+    let t = c.requires.fits in
+    let p = c.args.self.now in
+    let used = c.tell_picked-told.new.used in
+    let used-is = c.tell_picked-told.ensures.items t.0 t.1 ∙ ap (λ l. marked_all (filter t.0.passes l) (items p.used)) c.items.ensures in
+    omega (arith, items_length p.used, items_length used, tell_more p t.0.passes (items used) used-is)
 
 pub overflow_sub-self-2 : goal.overflow_sub-self-2
-overflow_sub-self-2 g c = omega (arith, tell_fewer c.args.self.now (g.P.Test.passing c.args.pick.now), c.tell_picked-told.ensures.len)
+overflow_sub-self-2 g c =
+    let t = c.requires.fits in
+    let p = c.args.self.now in
+    let used = c.tell_picked-told.new.used in
+    let used-is = c.tell_picked-told.ensures.items t.0 t.1 ∙ ap (λ l. marked_all (filter t.0.passes l) (items p.used)) c.items.ensures in
+    omega (arith, items_length p.used, items_length used, tell_fewer p t.0.passes (items used) used-is)
 
 pub invariant_of-self : goal.invariant_of-self
 invariant_of-self g c =
+    let t = c.requires.fits in
     let p = c.args.self.now in
-    let told = c.tell_picked-told.ensures in
-    let left = c.remove.ensures in
-    let h : Head = record {
-      streams = p.head.streams;
-      playhead = p.head.playhead;
-      modes = p.head.modes;
-      kept_ids = p.head.kept_ids - (c.tell_picked-told.new.used.len - p.used.len);
-    } in
+    let used = c.tell_picked-told.new.used in
+    let used-is = c.tell_picked-told.ensures.items t.0 t.1 ∙ ap (λ l. marked_all (filter t.0.passes l) (items p.used)) c.items.ensures in
+    let h : Head = record { streams = p.head.streams; playhead = p.head.playhead; modes = p.head.modes; kept_ids = p.head.kept_ids - (used.len - p.used.len) } in
     record {
-      sound = tell_sound p (g.P.Test.passing c.args.pick.now) h c.remove.new.self c.tell_picked-told.new.used
-          left.items left.len left.places told.items told.len told.places refl refl;
+      sound = tell_sound p t.0.passes (items used) used-is h (items c.remove.new.self) _ (c.remove.ensures.items t.0.passes t.1.0) c.tell_picked-told.ensures.behind.1
+          (omega (arith, items_length p.used, items_length used)) refl;
     }
+
+pub returns-clause-after : goal.returns-clause-after
+returns-clause-after g c = λ t is.
+    let p = c.args.self.now in
+    let kept-is = c.remove.ensures.items t.passes is.0 in
+    let used-is = c.tell_picked-told.ensures.items t is ∙ ap (λ l. marked_all (filter t.passes l) (items p.used)) c.items.ensures in
+    let places = c.remove.ensures.behind.1 in
+    let id-places = c.tell_picked-told.ensures.behind.1 in
+    cc

@@ -1,8 +1,13 @@
+use Rattle.std.proofs.Common.{◌≤◌}
 use Rattle.calls.specs.Plays.{told_by}
+use Rattle.player.specs.Rows.{Behind}
+use Rattle.player.specs.Tests.{Picks}
 use Rattle.player.proofs.Telling.{Told}
 use Rattle.player.proofs.players.playing.tell_picked.Given as goal
 
-abbrev pub invariant-loop-i : goal.invariant-loop-i
-invariant-loop-i g l =
-    Told (g.P.Test.passing l.pick) (told_by (g.P.Pick.told_at l.pick)) l.kept.slots.now l.initial.used l.used
-    (g.S.Sink.held l.initial.sink) (g.S.Sink.held l.sink) l.told l.i
+abbrev pub invariant-loop-event : goal.invariant-loop-event
+invariant-loop-event g l =
+    ((t : _) → Picks g.F.Fn g.P.Fn t l.picks l.position →
+    Told t.passes (told_by t.told_at) l.kept l.fn.used l.used (g.S.Sink.held l.fn.sink) (g.S.Sink.held l.sink) l.told l.event-index)
+    × Behind l.fn.used l.used
+    × (l.told ≤ l.event-index)

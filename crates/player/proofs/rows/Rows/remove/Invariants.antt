@@ -1,7 +1,12 @@
-use Rattle.std.proofs.Common.{◌≡◌}
-use Rattle.player.proofs.Fronts.{Compacted}
+use Rattle.std.proofs.Common.{◌≡◌, ◌≤◌, drop, length}
+use Rattle.std.proofs.lemmas.List.Filters.{FiltersInPlace}
+use Rattle.tables.specs.Tables.{fails}
+use Rattle.player.specs.Tests.{Computes}
 use Rattle.player.proofs.rows.Rows.remove.Given as goal
 
 abbrev pub invariant-loop-i : goal.invariant-loop-i
 invariant-loop-i g l =
-    Compacted (g.P.Test.passing l.test) l.initial.self.slots.now l.self.slots.now l.left l.i × (l.self.len ≡ l.initial.self.len)
+    ((p : _) → Computes g.F.Fn p l.test → FiltersInPlace (fails p) l.fn.self.slots.now l.self.slots.now l.self.len l.i)
+    × (drop l.self.len l.self.slots.now ≡ drop l.self.len l.fn.self.slots.now)
+    × (length l.self.slots.now ≡ length l.fn.self.slots.now)
+    × (l.self.len ≤ l.i)
