@@ -1,7 +1,6 @@
 -- The catalogue of streams.
 --   named m e         the stream that an entry of a catalogue over the buffer m names
 --   listed c          the streams of a catalogue, by their numbers
---   sought a b        the stream with the scheme a and the value b
 --   number_from n s   the number of s in a list whose first stream has the number n
 --   number s          its number in a list
 --   Sound ts          at most 32 streams, each of them proper, and each found under its own number
@@ -25,9 +24,6 @@ named m e = record { scheme = between e.scheme e.value m; value = between e.valu
 
 abbrev pub listed : Catalogue → List Stream
 listed c = map (named c.stretch.media.now) (take c.count.count c.entries)
-
-abbrev pub sought : List ℕ → List ℕ → Stream
-sought a b = record { scheme = a; value = b }
 
 abbrev pub number_from : ℕ → Stream → List Stream → Option ℕ
 number_from n s [] = None

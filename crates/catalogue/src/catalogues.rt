@@ -4,7 +4,7 @@ ghost use Rattle.std.specs.Option.{option_map};
 ghost use Rattle.std.specs.Result.{result_err};
 ghost use Rattle.event.specs.Numbers.{answer};
 ghost use Rattle.media.specs.Stretches.{left};
-ghost use Rattle.catalogue.specs.Catalogues.{added, behind, ends, flaw, listed, named, number, sought};
+ghost use Rattle.catalogue.specs.Catalogues.{added, behind, ends, flaw, listed, named, number};
 ghost use Rattle.catalogue.specs.Pairs.{listing, stream};
 
 use crate::pairs::Pair;
@@ -86,15 +86,14 @@ impl<'a> Catalogue<'a> {
     }
 
     // The number of a pair in the list, if it is there.
-    pub fn find<'b>(&self, scheme: &'b [u8], value: &'b [u8]) -> Option<u8>
-        ensures { result ≡ number (sought scheme.now value.now) (listed self.now) }
+    pub fn find(&self, pair: Pair) -> Option<u8>
+        ensures { result ≡ number (stream pair.entry) (listed self.now) }
     {
-        let sought = Pair { scheme, value };
         let media = self.stretch.media;
         let number = self
             .entries()
             .iter()
-            .position(|entry| entry.pair(media) == sought)?;
+            .position(|entry| entry.pair(media) == pair)?;
         Some(number as u8)
     }
 
@@ -106,7 +105,7 @@ impl<'a> Catalogue<'a> {
         if !pair.is_proper() {
             return Err(Refusal::CatalogueString);
         }
-        if self.find(pair.scheme, pair.value).is_some() {
+        if self.find(pair).is_some() {
             return Err(Refusal::ListedTwice);
         }
         if self.streams().count() >= StreamCount::MOST {

@@ -56,7 +56,7 @@ impl EmsgFields<'_> {
     {
         let span = self.span(timing)?;
         Ok(Event {
-            stream: catalogue.find(self.pair.scheme, self.pair.value),
+            stream: catalogue.find(self.pair),
             id: Some(self.id),
             span,
             arrival: timing.arrival(),

@@ -21,7 +21,7 @@ impl EsRecord<'_> {
         Some(EventStream {
             timescale,
             offset: self.offset,
-            stream: catalogue.find(self.pair.scheme, self.pair.value),
+            stream: catalogue.find(self.pair),
         })
     }
 }

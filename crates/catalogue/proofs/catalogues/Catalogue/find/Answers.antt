@@ -2,16 +2,16 @@ use Rattle.std.proofs.Common.{◌≡◌, rules, map, sym, ap, ◌∙◌, tests}
 use Rattle.std.proofs.lemmas.Iterator.{YieldsList-from_slice}
 use Rattle.std.proofs.lemmas.Iterator.Adapters.{position_from-zero}
 use Rattle.std.proofs.lemmas.Iterator.Search.{position_from_yields_List}
-use Rattle.catalogue.specs.Catalogues.{listed, named, number, sought}
-use Rattle.catalogue.specs.Pairs.{same}
+use Rattle.catalogue.specs.Catalogues.{listed, named, number}
+use Rattle.catalogue.specs.Pairs.{same, stream}
 use Rattle.catalogue.proofs.Entries.{numbered}
 use Rattle.catalogue.proofs.catalogues.Catalogue.find.Goals as goal
 use Rattle.catalogue.proofs.catalogues.Catalogue.find.Goals.{After-position}
 
-place : (c : After-position) → c.position.result ≡ number (sought c.args.scheme.now c.args.value.now) (listed c.args.self.now)
+place : (c : After-position) → c.position.result ≡ number (stream c.args.pair) (listed c.args.self.now)
 place c =
     let m = c.args.self.now.stretch.media.now in
-    let s = sought c.args.scheme.now c.args.value.now in
+    let s = stream c.args.pair in
     position_from_yields_List (λ e. same (named m e) s) _ _ c.position.result c.position.ensures.ran (YieldsList-from_slice _ c.iter.ensures.rest) (λ x b q k. search (rules, tests)) ∙
     position_from-zero (λ e. same (named m e) s) c.entries.result.now ∙ numbered m s 0 c.entries.result.now ∙
     ap (λ es. number s (map (named m) es)) c.entries.ensures.value
