@@ -24,7 +24,7 @@ abbrev pub named : List ℕ → Entry → Stream
 named m e = record { scheme = between e.scheme e.value m; value = between e.value e.end m }
 
 abbrev pub listed : Catalogue → List Stream
-listed c = map (named c.stretch.media.now) (take c.count c.entries)
+listed c = map (named c.stretch.media.now) (take c.count.count c.entries)
 
 abbrev pub sought : List ℕ → List ℕ → Stream
 sought a b = record { scheme = a; value = b }

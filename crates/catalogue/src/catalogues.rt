@@ -1,6 +1,7 @@
 // The catalogue: the streams that are listed, each a pair of scheme and value.
 ghost use Rattle.std.specs.Prelude.{◌≡◌, ◌≤◌, false, [], length, take, is_ok};
 ghost use Rattle.std.specs.Option.{option_map};
+ghost use Rattle.std.specs.Result.{result_err};
 ghost use Rattle.event.specs.Numbers.{answer};
 ghost use Rattle.media.specs.Stretches.{left};
 ghost use Rattle.catalogue.specs.Catalogues.{added, behind, ends, flaw, listed, named, number, sought};
@@ -48,7 +49,7 @@ impl Entry {
 pub struct Catalogue<'a> {
     stretch: Stretch<'a>,
     entries: [Entry; 32],
-    count: u8,
+    count: StreamCount,
 }
 
 impl<'a> Catalogue<'a> {
@@ -65,7 +66,7 @@ impl<'a> Catalogue<'a> {
         Catalogue {
             stretch,
             entries: [none; 32],
-            count: 0,
+            count: StreamCount::at_most(0),
         }
     }
 
@@ -73,16 +74,15 @@ impl<'a> Catalogue<'a> {
     pub fn streams(&self) -> StreamCount
         ensures { result.count ≡ length (listed self.now) }
     {
-        StreamCount::at_most(self.entries().len() as u8)
+        self.count
     }
 
     // The entries that are in use.
     fn entries(&self) -> &[Entry]
-        ensures value { result.now ≡ take self.now.count self.now.entries }
+        ensures value { result.now ≡ take self.now.count.count self.now.entries }
         ensures bound { length result.now ≤ 32 }
     {
-        let count = self.count.min(StreamCount::MOST) as usize;
-        &self.entries[0..count]
+        &self.entries[..usize::from(self.count.count())]
     }
 
     // The number of a pair in the list, if it is there.
@@ -91,30 +91,28 @@ impl<'a> Catalogue<'a> {
     {
         let sought = Pair { scheme, value };
         let media = self.stretch.media;
-        let entries = self.entries();
-        for (number, entry) in entries.iter().enumerate() {
-            if entry.pair(media).is(sought) {
-                return Some(number as u8);
-            }
-        }
-        None
+        let number = self
+            .entries()
+            .iter()
+            .position(|entry| entry.pair(media) == sought)?;
+        Some(number as u8)
     }
 
     // Why a pair cannot be listed, if so: a bad string, it is listed already, or it would be the 33rd.
-    fn flaw(&self, entry: Entry) -> Option<Refusal>
-        ensures { result ≡ flaw (named self.now.stretch.media.now entry) (listed self.now) }
+    fn admit(&self, entry: Entry) -> Result<(), Refusal>
+        ensures { result_err result ≡ flaw (named self.now.stretch.media.now entry) (listed self.now) }
     {
         let pair = entry.pair(self.stretch.media);
         if !pair.is_proper() {
-            return Some(Refusal::CatalogueString);
+            return Err(Refusal::CatalogueString);
         }
         if self.find(pair.scheme, pair.value).is_some() {
-            return Some(Refusal::ListedTwice);
+            return Err(Refusal::ListedTwice);
         }
         if self.streams().count() >= StreamCount::MOST {
-            return Some(Refusal::CatalogueFull);
+            return Err(Refusal::CatalogueFull);
         }
-        None
+        Ok(())
     }
 
     // Lists the pair of the `SV` record that stands at a place, and answers the place behind the record.
@@ -123,14 +121,10 @@ impl<'a> Catalogue<'a> {
         ensures same { is_ok result ≡ false → self.new ≡ self.old }
         ensures over { self.new.stretch ≡ self.old.stretch }
     {
-        let Some(entry) = Entry::read(self.stretch, place) else {
-            return Err(Refusal::CatalogueRecord);
-        };
-        if let Some(refusal) = self.flaw(entry) {
-            return Err(refusal);
-        }
-        self.entries[self.count as usize] = entry;
-        self.count += 1;
+        let entry = Entry::read(self.stretch, place).ok_or(Refusal::CatalogueRecord)?;
+        self.admit(entry)?;
+        self.entries[usize::from(self.count.count())] = entry;
+        self.count = StreamCount::at_most(self.count.count() + 1);
         Ok(entry.end)
     }
 }

@@ -1,11 +1,10 @@
 // A pair of scheme and value, which names a stream.
 ghost use Rattle.std.specs.Prelude.{◌≡◌};
 ghost use Rattle.std.specs.Option.{option_map};
-ghost use Rattle.std.specs.Str.{bytes_eq};
-ghost use Rattle.catalogue.specs.Pairs.{blank, fronted, listing, proper, same, stream};
+ghost use Rattle.catalogue.specs.Pairs.{blank, fronted, listing, proper, stream};
 
 // The two strings, as they stand in the media buffer.
-#[derive(Clone, Copy)]
+#[derive(Clone, Copy, PartialEq, Eq)]
 pub struct Pair<'a> {
     pub scheme: &'a [u8],
     pub value: &'a [u8],
@@ -16,8 +15,8 @@ impl<'a> Pair<'a> {
     pub fn front(bytes: &'a [u8], scheme: u8, value: u8) -> Option<Pair<'a>>
         ensures { option_map stream result ≡ fronted scheme value bytes.now }
     {
-        let middle = scheme as usize;
-        let end = middle + value as usize;
+        let middle = usize::from(scheme);
+        let end = middle + usize::from(value);
         if bytes.len() < end {
             return None;
         }
@@ -37,26 +36,12 @@ impl<'a> Pair<'a> {
         }
     }
 
-    // Both strings are the same, byte for byte.
-    pub(crate) fn is(self, other: Pair) -> bool
-        ensures { result ≡ same (stream self.entry) (stream other.entry) }
-    {
-        alike(self.scheme, other.scheme) && alike(self.value, other.value)
-    }
-
     // The scheme is not empty, and neither string holds a 0 byte.
     pub(crate) fn is_proper(self) -> bool
         ensures { result ≡ proper (stream self.entry) }
     {
         !self.scheme.is_empty() && !holds_zero(self.scheme) && !holds_zero(self.value)
     }
-}
-
-// Two strings are the same, byte for byte.
-fn alike(a: &[u8], b: &[u8]) -> bool
-    ensures { result ≡ bytes_eq a.now b.now }
-{
-    a == b
 }
 
 // A 0 byte is among the bytes.

@@ -76,4 +76,4 @@ performs (Evict a b) media streams w h = (done (evicts a b w).0, (evicts a b w).
 performs (Play t) media streams w h = (done (plays t w h).0, (plays t w h).1, (plays t w h).2)
 performs (DrawSheet start from to) media streams w h = draws_sheet start (stretch media from to) streams w h
 performs (DrawSegment start t from to) media streams w h =
-    draws_segment start (stretch media from to) (timing t.earliest t.offset t.media_ticks t.inband t.inband_ticks) streams w h
+    draws_segment start (stretch media from to) (timing t) streams w h

@@ -1,4 +1,5 @@
 -- Eight examples that are worked out by hand.
+--   times e o s p q       times with these: the earliest presentation time, the offset and the media timescale, the inband offset and its timescale
 --   start_given a v n s   the start that an emsg box of a version gives, whose time is n ticks of s, in a segment with the timing a
 --   kept a d              a kept event that starts at a, with a duration or none
 --   deck ks               a player at 0 that keeps these events
@@ -20,6 +21,7 @@ use Rattle.event.specs.declared.spans.Span.{Span}
 use Rattle.event.specs.declared.times.Time.{Time}
 use Rattle.base64_codec.specs.Texts.{accepted, decoded}
 use Rattle.media.specs.Timescales.{millis, timescale}
+use Rattle.media.specs.declared.times.Times.{Times}
 use Rattle.sheet.specs.SheetRecords.{Ev}
 use Rattle.sheet.specs.Sheets.{span_of}
 use Rattle.sheet.specs.declared.sheets.EventStream.{EventStream}
@@ -32,6 +34,9 @@ use Rattle.calls.specs.Plays.{plays}
 use Rattle.calls.specs.Seeks.{seeks}
 use Rattle.calls.specs.State.{State, fresh}
 use Rattle.tables.specs.declared.elements.Kept.{Kept}
+
+abbrev pub times : ℕ → ℕ → ℕ → ℕ → ℕ → Times
+times e o s p q = record { earliest = e; offset = o; media_ticks = s; inband = p; inband_ticks = q }
 
 abbrev pub start_given : Answer Timing → Version → ℕ → ℕ → Option Time
 start_given (did t) v n s = result_ok (start_of t v (millis n s))
@@ -64,9 +69,9 @@ abbrev pub a_gl : List ℕ
 a_gl = 97 ∷ 71 ∷ 108 ∷ 61 ∷ []
 
 pub record Worked : Type 0 where
-  pub delta_adds_to_arrival : start_given (timing 180000 90000 90000 0 1) Zero 500 1000 ≡ Some (time 1500)
-  pub presentation_time_is_rounded_down : start_given (timing 0 0 1 0 1) One 1001 90000 ≡ Some (time 11)
-  pub each_fraction_by_itself : start_given (timing 1 0 3 0 1) Zero 2 3 ≡ Some (time 999)
+  pub delta_adds_to_arrival : start_given (timing (times 180000 90000 90000 0 1)) Zero 500 1000 ≡ Some (time 1500)
+  pub presentation_time_is_rounded_down : start_given (timing (times 0 0 1 0 1)) One 1001 90000 ≡ Some (time 11)
+  pub each_fraction_by_itself : start_given (timing (times 1 0 3 0 1)) Zero 2 3 ≡ Some (time 999)
   pub largest_duration_is_unknown : (lasting 1000 4294967295 ≡ Ok None) × (lasting 1000 4294967294 ≡ Ok (Some (time 4294967294)))
   pub seek_onto_the_end : ((seeks 3500 (deck (kept 3000 (Some 500) ∷ [])) (room 1)).0 ≡ did 1) × ((seeks 3501 (deck (kept 3000 (Some 500) ∷ [])) (room 1)).0 ≡ did 0)
   pub sheet_time_at_the_offset : (start_in (span_of (sheet_at 700) (ev_at 700)) ≡ did 0) × (start_in (span_of (sheet_at 700) (ev_at 699)) ≡ refused 9)

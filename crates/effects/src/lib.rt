@@ -4,4 +4,4 @@
 pub mod performing;
 pub mod worked;
 
-pub use performing::{perform, timing};
+pub use performing::perform;

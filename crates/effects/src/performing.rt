@@ -2,7 +2,6 @@
 ghost use Rattle.std.specs.Prelude.{◌≡◌};
 ghost use Rattle.event.specs.Numbers.{answer};
 ghost use Rattle.catalogue.specs.Catalogues.{listed};
-ghost use Rattle.segment.specs.Timings.{timing};
 ghost use Rattle.player.specs.Players.{state};
 ghost use Rattle.effects.specs.Effects.{draws_all, performs};
 
@@ -12,7 +11,6 @@ use layers::Period;
 use media::Stretch;
 use player::{Drawn, Player};
 use runsheet::Command;
-use runsheet::commands::Times;
 use segment::{SegmentReader, Timing};
 use sheet::SheetReader;
 
@@ -24,11 +22,8 @@ pub fn draw_all<F: Feed, S: Sink>(
 ) -> Result<(), Refusal>
     ensures { (answer result, state player.new, S.held sink.new) ≡ draws_all (F.coming feed.old).records (F.coming feed.old).ending (state player.old) (S.held sink.old) }
 {
-    loop {
-        if player.draw(feed, sink)? == Drawn::End {
-            return Ok(());
-        }
-    }
+    while player.draw(feed, sink)? != Drawn::End {}
+    Ok(())
 }
 
 // Does what a command asks for, over the media buffer that its sheet stands in.
@@ -71,22 +66,9 @@ pub fn perform<'a, 'c, S: Sink>(
             to,
         } => {
             let stretch = Stretch::new(media, from, to)?;
-            let timing = timing(times)?;
+            let timing = Timing::new(times)?;
             let mut feed = Period::new(SegmentReader::new(stretch, timing, catalogue), start);
             draw_all(player, &mut feed, sink)
         }
     }
-}
-
-// The timing that a segment's times give.
-pub fn timing(times: Times) -> Result<Timing, Refusal>
-    ensures { answer result ≡ timing times.earliest times.offset times.media_ticks times.inband times.inband_ticks }
-{
-    Timing::new(
-        times.earliest,
-        times.offset,
-        times.media_ticks,
-        times.inband,
-        times.inband_ticks,
-    )
 }

@@ -3,10 +3,9 @@ use Rattle.std.proofs.Common.{◌≡◌, ℕ, zero, suc, ◌+◌, ◌<◌, ◌�
 use Rattle.std.proofs.lemmas.List.{length-drop}
 use Rattle.event.specs.declared.events.Event.{Event}
 use Rattle.event.specs.declared.faults.Fault.{Fault}
-use Rattle.event.specs.declared.feeds.Ending.TheVariants as ends
 use Rattle.media.specs.Reaches.{Exactly, NoneAtFault, Reached, Stand, beyond, found}
 use Rattle.media.specs.Reaches.Reached.{itself, behind_given, behind_passed}
-use Rattle.media.specs.Readers.{comes, ending}
+use Rattle.media.specs.Readers.{comes}
 use Rattle.media.specs.Walks.{Forward, Goes, given, onward}
 use Rattle.media.specs.declared.walks.Turn.{Turn}
 use Rattle.media.specs.declared.walks.Turn.TheVariants.{Clean, Broken, Gives, Passes}
@@ -50,10 +49,5 @@ module _ {X D S : Type 0} (turn : S → ℕ → List ℕ → Turn X D S) (forwar
   clean_if_none : (p : Stand S) → NoneAtFault turn p → stop_at p ≡ None
   clean_if_none p h = clean_from p h (suc (length p.left)) p (omega arith) itself
 
-none_left : (o : Option Fault) → ending o ≡ ends.Clean → o ≡ None
-none_left None e = refl
-none_left (Some f) e = let z : ◌≡◌ {A = ℕ} 0 1 = cc in absurd (omega arith)
-
-pub clean_exactly : {S : Type 0} (turn : S → ℕ → List ℕ → Turn Event Fault S) → Forward turn → (p : Stand S) → Exactly ((comes (given turn p.state p.place p.left)).ending ≡ ends.Clean) (NoneAtFault turn p)
-clean_exactly turn forward p =
-    (λ e. none_if_clean turn forward p (none_left _ e), λ h. ap ending (clean_if_none turn forward p h))
+pub clean_exactly : {S : Type 0} (turn : S → ℕ → List ℕ → Turn Event Fault S) → Forward turn → (p : Stand S) → Exactly ((comes (given turn p.state p.place p.left)).ending ≡ None) (NoneAtFault turn p)
+clean_exactly turn forward p = (none_if_clean turn forward p, clean_if_none turn forward p)

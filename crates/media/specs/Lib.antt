@@ -1,4 +1,3 @@
-pub mod BigEndian
 pub mod Insides
 pub mod Reaches
 pub mod Readers

@@ -1,28 +1,26 @@
 // A feed of at most one record.
-ghost use Rattle.std.specs.Prelude.{[], ◌∷◌, if◌then◌else◌};
+ghost use Rattle.std.specs.Prelude.{[], ◌∷◌, Some, None};
 
-use event::{Ending, Event, Feed, Look};
+use event::{Event, Fault, Feed};
 
-// The record, whether it is still to come, and the ending behind it.
+// The record, if it is still to come, and the fault behind it, if there is one.
 #[derive(Drop)]
 pub(crate) struct One {
-    pub(crate) event: Event,
-    pub(crate) present: bool,
-    pub(crate) ending: Ending,
+    pub(crate) event: Option<Event>,
+    pub(crate) fault: Option<Fault>,
 }
 
 impl Feed for One {
-    ghost coming = { λ f. record { records = (if f.present then f.event ∷ [] else []); ending = f.ending } };
+    ghost coming = { λ f. record { records = elim f.event [ None ↦ [] | Some e ↦ e ∷ [] ]; ending = f.fault } };
 
-    fn look(&self) -> Look {
-        if self.present {
-            Look::Record(self.event)
-        } else {
-            Look::Ended(self.ending)
+    fn look(&self) -> Result<Option<Event>, Fault> {
+        match (self.event, self.fault) {
+            (None, Some(fault)) => Err(fault),
+            (event, _) => Ok(event),
         }
     }
 
     fn step(&mut self) {
-        self.present = false;
+        self.event = None;
     }
 }

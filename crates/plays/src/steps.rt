@@ -1,8 +1,7 @@
 // The calls on a player as values, and what they say.
 use crate::feeds::One;
 use event::{
-    Defect, Dispatch, Ending, Event, Fault, Layer, Message, Mode, Refusal, Sink, Span, Time,
-    Trigger,
+    Defect, Dispatch, Event, Fault, Layer, Message, Mode, Refusal, Sink, Span, Time, Trigger,
 };
 use player::{Drawn, Player};
 
@@ -157,14 +156,13 @@ pub(crate) fn perform<S: Sink>(player: &mut Player, call: Call, sink: &mut S) ->
         Call::Leave(stream) => counted(player.leave(stream)),
         Call::Draw(event) => {
             let feed = One {
-                event,
-                present: true,
-                ending: Ending::Clean,
+                event: Some(event),
+                fault: None,
             };
             draw(player, feed, sink)
         }
-        Call::DrawEnd => draw(player, none(Ending::Clean), sink),
-        Call::DrawFault => draw(player, none(Ending::Broken(FAULT)), sink),
+        Call::DrawEnd => draw(player, none(None), sink),
+        Call::DrawFault => draw(player, none(Some(FAULT)), sink),
         Call::Play(to) => match player.play(to, sink) {
             Ok(played) => Said::Reached(played.told, played.playhead.ms()),
             Err(refusal) => refused(refusal),
@@ -175,10 +173,6 @@ pub(crate) fn perform<S: Sink>(player: &mut Player, call: Call, sink: &mut S) ->
 }
 
 // A feed with no record.
-fn none(ending: Ending) -> One {
-    One {
-        event: event(None, 0, None),
-        present: false,
-        ending,
-    }
+fn none(fault: Option<Fault>) -> One {
+    One { event: None, fault }
 }

@@ -3,7 +3,7 @@ use crate::steps::{Call, Said, arrived, event, in_stream, perform, unused};
 use event::{Dispatch, Feed, Mode, Refusal, Sink, StreamCount};
 use layers::Period;
 use player::{Drawn, Kept, Player, Tables, UsedId};
-use reader::{Catalogue, SegmentReader, SheetReader, Stretch, Timing};
+use reader::{Catalogue, SegmentReader, SheetReader, Stretch, Times, Timing};
 use sink::{ByteLog, RecordList, read_log};
 
 // How many records were drawn, and what became of them.
@@ -152,7 +152,13 @@ fn draw_both<S: Sink>(
         source.segment,
         source.segment.saturating_add(38),
     )?;
-    let timing = Timing::new(0, 0, 1000, 0, 1000)?;
+    let timing = Timing::new(Times {
+        earliest: 0,
+        offset: 0,
+        media_ticks: 1000,
+        inband: 0,
+        inband_ticks: 1000,
+    })?;
     let mut first = Period::new(SheetReader::new(sheet, &catalogue), 1000);
     let mut second = Period::new(SegmentReader::new(segment, timing, &catalogue), 1000);
     let half = draw_feed(player, &mut first, sink, tally);

@@ -2,7 +2,7 @@
 #![tactic(auto)]
 
 pub use catalogue::{Catalogue, catalogues};
-pub use media::{Stretch, Timescale, stretches, timescales};
+pub use media::{Stretch, Times, Timescale, stretches, times, timescales};
 pub use message::{message, messages};
 pub use segment::{SegmentReader, Timing, segments, timings};
 pub use sheet::{SheetReader, sheets};

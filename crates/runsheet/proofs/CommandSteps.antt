@@ -1,5 +1,5 @@
 -- One turn over the commands of a run sheet.
-use Rattle.std.proofs.Common.{◌≡◌, ℕ, ◌+◌, true, false, eqb, length, drop, Some, None, Ok, Err, Option, Result, sym, refl, ap, ◌∙◌, subst}
+use Rattle.std.proofs.Common.{◌≡◌, ℕ, ◌+◌, true, false, eqb, length, drop, Some, None, Ok, Err, sym, refl, ap, ◌∙◌, subst}
 use Rattle.std.proofs.lemmas.Bool.{cond_both, cond-false, cond-true}
 use Rattle.event.specs.declared.refusals.Refusal.{Refusal}
 use Rattle.event.specs.declared.refusals.Refusal.TheVariants.{RunSheetRecord}
@@ -11,7 +11,7 @@ use Rattle.media.specs.declared.walks.Turn.TheVariants.{Clean, Broken, Gives}
 use Rattle.media.proofs.Parts as parts
 use Rattle.media.proofs.Turns.{given_is}
 use Rattle.runsheet.specs.Commands.{Read, command}
-use Rattle.runsheet.specs.RunSheets.{Commands, command_turn, commands, head_of, rest_of, turn_of}
+use Rattle.runsheet.specs.RunSheets.{Commands, Reads, command_turn, commands, turn_of}
 use Rattle.runsheet.specs.declared.commands.Command.{Command}
 use Rattle.runsheet.proofs.Reading.{Fits, command_fits}
 
@@ -30,11 +30,6 @@ on_from_lem : (s : Stretch) (at : ℕ) (t : Turn Command Refusal (Unit {0})) →
 on_from_lem s at t e =
     given_is command_turn forward tt at (left s at) ∙ ap (λ x. onward x (λ u k. commands (at + k) (drop k (left s at)))) e ∙
     (λ i. onward t (λ u k. commands (at + k) (parts.behind s.media.now at s.to k i)))
-
--- what a call that reads the next command answers, and the commands behind it
-pub record Reads (w v : Commands) (r : Option (Result Command Refusal)) : Type 0 where
-  pub head : r ≡ head_of w
-  pub rest : v ≡ rest_of w
 
 pub at_end_lem : (s : Stretch) (at : ℕ) → eqb (length (left s at)) 0 ≡ true → Reads (on_from s at) (on_from s at) None
 at_end_lem s at h =

@@ -1,70 +1,41 @@
 -- A command's record, and how long it is.
-use Rattle.std.proofs.Common.{◌≡◌, ℕ, ◌+◌, ◌-◌, ◌<◌, ◌≤◌, true, cond, ◌&&◌, eqb, leb, List, length, drop, Some, None, Option, refl, ap, ◌∙◌, inl, inr, arith}
+use Rattle.std.proofs.Common.{◌≡◌, ℕ, ◌+◌, ◌-◌, ◌<◌, ◌≤◌, true, cond, ◌&&◌, eqb, leb, List, length, drop, Some, None, Option, refl, inl, inr, arith}
 use Rattle.std.specs.List.{between}
 use Rattle.std.proofs.lemmas.List.{length-drop, length-take}
-use Rattle.std.proofs.lemmas.Bool.{and_parts, cases_Bool, cond_both, eqb-true, le-leb, leb-true}
-use Rattle.media.specs.BigEndian.{num16, num64}
-use Rattle.runsheet.specs.Commands.{Goes, Read, command, draw_segment, draw_sheet, marked, segment_length, segment_of, segment_times}
+use Rattle.std.proofs.lemmas.Bool.{and_parts, cases_Bool, cond_both, eqb-true, leb-true}
+use Rattle.event.specs.BigEndian.{num16, num64}
+use Rattle.runsheet.specs.Commands.{Goes, Read, command, draw_sheet, marked, segment_length, segment_of}
 use Rattle.runsheet.specs.RunSheets.{length_of}
 use Rattle.runsheet.specs.declared.commands.Command.{Command}
-use Rattle.runsheet.specs.declared.commands.Command.TheVariants.{DrawSegment}
-use Rattle.runsheet.specs.declared.commands.Times.{Times}
+use Rattle.media.specs.declared.times.Times.{Times}
 
 pub length_between : (a b : ℕ) (m : List ℕ) → length (between a b m) ≤ b - a
 length_between a b m = omega (arith, length-take (b - a) (drop a m))
 
-times_long : (fs : List ℕ) (t : Times) → Some t ≡ segment_times fs → 32 ≤ length fs
-times_long fs t e =
-    elim (cases_Bool (leb 32 (length fs))) [
-      | inl y ↦ leb-true 32 (length fs) y
+segment_fits : (bs : List ℕ) (n : ℕ) → Some n ≡ segment_length (drop 10 bs) → 44 + n ≤ length bs
+segment_fits bs n e =
+    let fs = drop 10 bs in
+    let size = length-drop 10 bs in
+    elim (cases_Bool (leb 34 (length fs) && leb (34 + num16 fs 32) (length fs))) [
+      | inl y ↦
+          let parts = and_parts (leb 34 (length fs)) (leb (34 + num16 fs 32) (length fs)) y in
+          let s : Some n ≡ Some (num16 fs 32) = rw y at e in
+          let q : n ≡ num16 fs 32 = cc in
+          omega (arith, q, size, leb-true (34 + num16 fs 32) (length fs) parts.1)
       | inr f ↦
-          let s : Some t ≡ None = rw f at e in
+          let s : Some n ≡ None = rw f at e in
           let z : ◌≡◌ {A = ℕ} 0 1 = cc in
           absurd (omega arith)
     ]
-
--- a segment's record by its fields, which stand behind the period start
-module _ (at start : ℕ) (bs fs : List ℕ) (fields : fs ≡ drop 10 bs) (t : Times) (times : Some t ≡ segment_times fs) where
-  long : 10 ≤ length bs
-  long = omega (arith, times_long fs t times, ap length fields, length-drop 10 bs)
-
-  by_fields : segment_of at (num64 bs 2) (segment_times fs) (segment_length fs) ≡ draw_segment at bs
-  by_fields = ap (λ l. segment_of at (num64 bs 2) (segment_times l) (segment_length l)) fields ∙ rw (le-leb 10 (length bs) long)
-
-  pub segment_cut : None ≡ segment_length fs → None ≡ draw_segment at bs
-  segment_cut e =
-      ap (λ o. segment_of at (num64 bs 2) (Some t) o) e ∙ ap (λ o. segment_of at (num64 bs 2) o (segment_length fs)) times ∙ by_fields
-
-  pub segment_read : (n : ℕ) → start ≡ num64 bs 2 → Some n ≡ segment_length fs → ◌≡◌ {A = Read} (Some (DrawSegment start t (at + 44) (at + 44 + n), 44 + n)) (draw_segment at bs)
-  segment_read n s e =
-      ap (λ p. segment_of at p (Some t) (Some n)) s
-      ∙ ap (λ o. segment_of at (num64 bs 2) (Some t) o) e
-      ∙ ap (λ o. segment_of at (num64 bs 2) o (segment_length fs)) times
-      ∙ by_fields
-
-  pub segment_fits : (n : ℕ) → Some n ≡ segment_length fs → 44 + n ≤ length bs
-  segment_fits n e =
-      let size = ap length fields ∙ length-drop 10 bs in
-      elim (cases_Bool (leb 34 (length fs) && leb (34 + num16 fs 32) (length fs))) [
-        | inl y ↦
-            let parts = and_parts (leb 34 (length fs)) (leb (34 + num16 fs 32) (length fs)) y in
-            let s : Some n ≡ Some (num16 fs 32) = rw y at e in
-            let q : n ≡ num16 fs 32 = cc in
-            omega (arith, q, size, leb-true (34 + num16 fs 32) (length fs) parts.1)
-        | inr f ↦
-            let s : Some n ≡ None = rw f at e in
-            let z : ◌≡◌ {A = ℕ} 0 1 = cc in
-            absurd (omega arith)
-      ]
 
 -- a record that was read has at least one byte, and at most n
 abbrev pub Fits : ℕ → Read → Type 0
 Fits n r = Goes r n
 
-segment_goes : (at start : ℕ) (bs : List ℕ) (o : Option Times) (l : Option ℕ) → o ≡ segment_times (drop 10 bs) → l ≡ segment_length (drop 10 bs) → Fits (length bs) (segment_of at start o l)
-segment_goes at start bs None l p q = tt
-segment_goes at start bs (Some t) None p q = tt
-segment_goes at start bs (Some t) (Some n) p q = (omega arith, segment_fits at start bs (drop 10 bs) refl t p n q)
+segment_goes : (at start : ℕ) (bs : List ℕ) (o : Option Times) (l : Option ℕ) → l ≡ segment_length (drop 10 bs) → Fits (length bs) (segment_of at start o l)
+segment_goes at start bs None l e = tt
+segment_goes at start bs (Some t) None e = tt
+segment_goes at start bs (Some t) (Some n) e = (omega arith, segment_fits bs n e)
 
 -- a command with a record of k bytes, where there are so many
 long_enough : (c : Command) (k : ℕ) (bs : List ℕ) → 0 < k → Fits (length bs) (cond (leb k (length bs)) (Some (c, k)) None)
@@ -89,7 +60,7 @@ command_fits at bs =
     (by_mark 69 88 n bs _ _ (long_enough _ 18 bs (omega arith))
     (by_mark 77 80 n bs _ _ (sheet_goes at bs)
     (by_mark 83 71 n bs _ _
-    (cond_both (leb 10 (length bs)) _ None (Fits n) (λ _. segment_goes at (num64 bs 2) bs _ _ refl refl) (λ _. tt)) tt))))))
+    (cond_both (leb 10 (length bs)) _ None (Fits n) (λ _. segment_goes at (num64 bs 2) bs _ _ refl) (λ _. tt)) tt))))))
 
 length_fits : (n : ℕ) (r : Read) → Fits n r → length_of r ≤ n
 length_fits n None h = omega arith

@@ -14,9 +14,9 @@
 --   command at bs        the command by its mark; none where the mark is unknown
 use Rattle.std.specs.Prelude.{ℕ, ◌+◌, ◌<◌, ◌≤◌, Bool, cond, ◌&&◌, List, length, drop, Some, None, Option, ◌==◌, nat_le, slice_index}
 use Rattle.event.specs.Modes.{mode_of}
-use Rattle.media.specs.BigEndian.{num16, num32, num64}
+use Rattle.event.specs.BigEndian.{num16, num32, num64}
 use Rattle.runsheet.specs.declared.commands.Command.{Command}
-use Rattle.runsheet.specs.declared.commands.Times.{Times}
+use Rattle.media.specs.declared.times.Times.{Times}
 use Rattle.runsheet.specs.declared.commands.Command.TheVariants.{Follow, Leave, Play, Seek, Evict, DrawSheet, DrawSegment}
 
 abbrev pub Read : Type 0

@@ -8,6 +8,7 @@
 --   at_end x, first_of cs x   what stands next where no command is left, and before the commands cs
 --   head_of w                 what stands next: a command, or the refusal that stops the reading; nothing at the end
 --   rest_of w                 all but the first command
+--   Reads w v r               of the commands w what stands next is r, and v is what is left behind it
 --   command_of r              the command that was read; where there is none, 30
 --   length_of r               the length of the record that was read; 0 where there is none
 --   next_of at bs             what stands next, at a place with the bytes bs left; nothing where none is left
@@ -61,6 +62,10 @@ head_of w = first_of w.items w.stop
 
 abbrev pub rest_of : Commands → Commands
 rest_of w = record { items = drop 1 w.items; stop = w.stop }
+
+pub record Reads (w v : Commands) (r : Option (Result Command Refusal)) : Type 0 where
+  pub head : r ≡ head_of w
+  pub rest : v ≡ rest_of w
 
 abbrev pub length_of : Read → ℕ
 length_of None = 0

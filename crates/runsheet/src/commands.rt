@@ -2,16 +2,7 @@
 pub mod reading;
 
 use event::Mode;
-
-// How the times of a segment count: its earliest presentation time, offset and media timescale, and its inband offset and that one's timescale.
-#[derive(Clone, Copy, PartialEq, Eq, Debug)]
-pub struct Times {
-    pub earliest: u64,
-    pub offset: u64,
-    pub media_ticks: u32,
-    pub inband: u64,
-    pub inband_ticks: u32,
-}
+use media::Times;
 
 // What a record after the catalogue asks for; a sheet or a segment is given by the places in the media buffer where it begins and ends.
 #[derive(Clone, Copy, PartialEq, Eq, Debug)]

@@ -1,5 +1,3 @@
-pub mod BoxLengths
 pub mod Closings
-pub mod SegmentPlaces
-pub mod SegmentSteps
+pub mod Numbers
 pub mod SegmentTurns

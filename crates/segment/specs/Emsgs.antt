@@ -1,5 +1,4 @@
 -- The fields of emsg boxes, as their bytes have them.
---   zero_from n bs            where the first 0 byte of bs stands, whose own first byte stands at n
 --   Shut                      a string, and what stands behind the 0 byte that closes it
 --   shut_at o bs              the string in front of a 0 byte, where it was found
 --   shut bs                   the string at the front of bs; none where no 0 byte closes it
@@ -8,24 +7,21 @@
 --   valued, schemed           the value behind a scheme, and both, where each is closed
 --   texts bs                  the two strings at the front of bs; none where one is not closed
 --   names n                   what two strings that were read say
---   Emsg                      stream, timescale, time, duration and id, and the length of the message
+--   Emsg                      version, stream, timescale, time, duration and id, and the length of the message
 --   zero_fields, one_fields   the numbers of a version, once the strings are read
 --   emsg_zero bs              version 0: scheme, value, timescale u32, time u32, duration u32, id u32, message; none where these do not fit
 --   emsg_one bs               version 1: timescale u32, time u64, duration u32, id u32, scheme, value, message; none likewise
 --   emsg_of v bs              the fields of a version
 --   fields r                  what a box that was read says
-use Rattle.std.specs.Prelude.{ℕ, ◌+◌, ◌-◌, cond, List, [], ◌∷◌, length, take, drop, Some, None, Option, ◌==◌, nat_le}
-use Rattle.media.specs.BigEndian.{num32, num64}
+use Rattle.std.specs.Prelude.{ℕ, ◌+◌, ◌-◌, cond, List, length, take, drop, Some, None, Option, ◌==◌, nat_le}
+use Rattle.std.specs.List.{position_from}
+use Rattle.event.specs.BigEndian.{num32, num64}
 use Rattle.catalogue.specs.Pairs.{Stream, stream}
 use Rattle.segment.specs.declared.segments.emsgs.Closed.{Closed}
 use Rattle.segment.specs.declared.segments.emsgs.EmsgFields.{EmsgFields}
 use Rattle.segment.specs.declared.segments.emsgs.Names.{Names}
 use Rattle.segment.specs.declared.timings.Version.{Version}
 use Rattle.segment.specs.declared.timings.Version.TheVariants.{Zero, One}
-
-abbrev pub zero_from : ℕ → List ℕ → Option ℕ
-zero_from n [] = None
-zero_from n (b ∷ bs) = cond (b == 0) (Some n) (zero_from (n + 1) bs)
 
 pub record Shut : Type 0 where
   pub text : List ℕ
@@ -36,7 +32,7 @@ shut_at None bs = None
 shut_at (Some n) bs = Some (record { text = take n bs; rest = drop (n + 1) bs })
 
 abbrev pub shut : List ℕ → Option Shut
-shut bs = shut_at (zero_from 0 bs) bs
+shut bs = shut_at (position_from (λ b. b == 0) 0 bs) bs
 
 abbrev pub closed : Closed → Shut
 closed c = record { text = c.text.now; rest = c.rest.now }
@@ -60,6 +56,7 @@ abbrev pub names : Names → Texts
 names n = record { named = stream n.pair; rest = n.rest.now }
 
 pub record Emsg : Type 0 where
+  pub version : Version
   pub named : Stream
   pub timescale : ℕ
   pub time : ℕ
@@ -72,6 +69,7 @@ zero_fields None = None
 zero_fields (Some t) =
     cond (nat_le 16 (length t.rest))
     (Some (record {
+      version = Zero;
       named = t.named;
       timescale = num32 t.rest 0;
       time = num32 t.rest 4;
@@ -87,6 +85,7 @@ emsg_zero bs = zero_fields (texts bs)
 abbrev pub one_fields : List ℕ → Option Texts → Option Emsg
 one_fields bs None = None
 one_fields bs (Some t) = Some (record {
+  version = One;
   named = t.named;
   timescale = num32 bs 0;
   time = num64 bs 4;
@@ -104,6 +103,7 @@ emsg_of One bs = emsg_one bs
 
 abbrev pub fields : EmsgFields → Emsg
 fields r = record {
+  version = r.version;
   named = stream r.pair;
   timescale = r.timescale;
   time = r.time;

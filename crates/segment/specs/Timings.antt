@@ -1,6 +1,7 @@
 -- How the times of a segment count.
 --   within n           the time of n milliseconds, where it is not past the latest time
---   timing e o s p q   arrival (e - o)/s, and the inband offset p/q; 6 where s or q is no timescale, 9 where e is below o, 10 where the arrival is past the latest time
+--   timing t           arrival, which is the earliest time less the offset, and inband offset, each in its timescale; 6 where one of these is none, 9 where the earliest time is below the offset,
+--                      10 where the arrival is past the latest time
 --   from_inband o n    n milliseconds less the inband offset o: 9 where that is below 0
 --   start_of t v n     the start of an event whose time is n milliseconds: a version 0 counts on from the arrival, and 10 where that is past the latest time;
 --                      a version 1 counts from the inband offset, and 9 where it is below it
@@ -12,6 +13,7 @@ use Rattle.event.specs.declared.faults.Defect.{Defect}
 use Rattle.event.specs.declared.faults.Defect.TheVariants.{BelowZero, PastLatest}
 use Rattle.event.specs.declared.times.Time.{Time}
 use Rattle.media.specs.Timescales.{is_timescale, millis}
+use Rattle.media.specs.declared.times.Times.{Times}
 use Rattle.segment.specs.declared.timings.Timing.{Timing}
 use Rattle.segment.specs.declared.timings.Version.{Version}
 use Rattle.segment.specs.declared.timings.Version.TheVariants.{Zero, One}
@@ -19,11 +21,13 @@ use Rattle.segment.specs.declared.timings.Version.TheVariants.{Zero, One}
 abbrev pub within : ℕ → Option Time
 within n = cond (nat_le n latest) (Some (time n)) None
 
-abbrev pub timing : ℕ → ℕ → ℕ → ℕ → ℕ → Answer Timing
-timing e o s p q =
-    cond (is_timescale s && is_timescale q)
-    (cond (nat_le o e)
-    (cond (nat_le (millis (e - o) s) latest) (did (record { arrival = time (millis (e - o) s); inband = within (millis p q) })) (refused 10))
+abbrev pub timing : Times → Answer Timing
+timing t =
+    cond (is_timescale t.media_ticks && is_timescale t.inband_ticks)
+    (cond (nat_le t.offset t.earliest)
+    (cond (nat_le (millis (t.earliest - t.offset) t.media_ticks) latest)
+    (did (record { arrival = time (millis (t.earliest - t.offset) t.media_ticks); inband = within (millis t.inband t.inband_ticks) }))
+    (refused 10))
     (refused 9))
     (refused 6)
 

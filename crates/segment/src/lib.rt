@@ -1,7 +1,6 @@
 // The segment reader: from emsg boxes to the events of a feed.
 #![tactic(auto)]
 
-pub(crate) mod numbers;
 pub mod segments;
 pub mod timings;
 

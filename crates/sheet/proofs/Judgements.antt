@@ -26,7 +26,7 @@ event_is g at v s f e t =
     sym (cond-true (text_fits v) (Ok (event g at v s)) (Err NotBase64) t) ∙ ap (messaged g at v) e ∙
     sym (cond-true (flags_fit v) (messaged g at v (span_of g v)) (Err Flags) f)
 
-pub event_from : (g : EventStream) (at : ℕ) (v : Ev) (s : Span) (i : Option ℕ) (t : Time) (b : Bool) → true ≡ flags_fit v → Ok s ≡ span_of g v → true ≡ text_fits v → i ≡ id_of v → t.ms ≡ 0 → b ≡ flagged 4 v → Ok (record { stream = g.stream; id = i; span = s; arrival = t; message = record { place = at; length = v.size; base64 = b } }) ≡ event_of g at v
-event_from g at v s i t b f e x ei et eb =
-    (λ j. Ok (record { stream = g.stream; id = ei j; span = s; arrival = known_by_ms t (time 0) et j; message = record { place = at; length = v.size; base64 = eb j } })) ∙
+pub event_from : (g : EventStream) (at : ℕ) (v : Ev) (s : Span) (i : Option ℕ) (t : Time) (n : ℕ) (b : Bool) → true ≡ flags_fit v → Ok s ≡ span_of g v → true ≡ text_fits v → i ≡ id_of v → t.ms ≡ 0 → n ≡ v.size → b ≡ flagged 4 v → Ok (record { stream = g.stream; id = i; span = s; arrival = t; message = record { place = at; length = n; base64 = b } }) ≡ event_of g at v
+event_from g at v s i t n b f e x ei et en eb =
+    (λ j. Ok (record { stream = g.stream; id = ei j; span = s; arrival = known_by_ms t (time 0) et j; message = record { place = at; length = en j; base64 = eb j } })) ∙
     event_is g at v s (sym f) e (sym x)

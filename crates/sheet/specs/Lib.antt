@@ -1,3 +1,5 @@
+pub mod Lengths
+pub mod Messages
 pub mod SheetRecords
 pub mod SheetWalks
 pub mod Sheets

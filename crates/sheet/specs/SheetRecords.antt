@@ -9,7 +9,7 @@
 --   es_fields, ev_fields   these behind the mark, where the strings or the message are not cut
 --   es r, ev r             what a record that was read says
 use Rattle.std.specs.Prelude.{ℕ, ◌+◌, cond, ◌&&◌, List, length, take, drop, Some, None, Option, nat_le, slice_index}
-use Rattle.media.specs.BigEndian.{num16, num32, num64}
+use Rattle.event.specs.BigEndian.{num16, num32, num64}
 use Rattle.catalogue.specs.Pairs.{Stream, fronted, marked, stream}
 use Rattle.sheet.specs.declared.sheets.records.EsRecord.{EsRecord}
 use Rattle.sheet.specs.declared.sheets.records.EvRecord.{EvRecord}

@@ -3,7 +3,7 @@
 --   ev_turn s at m v        an `EV` record at a place, with its message at m: it gives its event, or 12 where no `ES` governs it, or what is wrong with the event
 --   sheet_turn ts s at bs   one turn over the bytes bs, which stand at a place: a clean end where none is left, 11 where no record is there
 --   sheet ts at bs          what comes from a sheet of the bytes bs, which stand at a place, with the streams ts listed
---   behind s                what is left of a sheet that is being walked over
+--   turns s                 the turns over a sheet's records, by their rules
 --   coming r                what comes from a sheet reader
 use Rattle.std.specs.Prelude.{ℕ, ◌+◌, cond, List, length, Some, None, Ok, Err, Option, Result, ◌==◌}
 use Rattle.event.specs.Feeds.{Coming}
@@ -11,8 +11,7 @@ use Rattle.event.specs.declared.events.Event.{Event}
 use Rattle.event.specs.declared.faults.Defect.{Defect}
 use Rattle.event.specs.declared.faults.Defect.TheVariants.{Timescale, CutRecord, NoEventStream}
 use Rattle.event.specs.declared.faults.Fault.{Fault}
-use Rattle.media.specs.Readers.{ahead, comes, fault}
-use Rattle.media.specs.Stretches.{left}
+use Rattle.media.specs.Readers.{comes, fault, coming as reads}
 use Rattle.media.specs.Timescales.{is_timescale}
 use Rattle.media.specs.Walks.{given}
 use Rattle.media.specs.declared.walks.Turn.{Turn}
@@ -51,9 +50,8 @@ sheet_turn ts s at bs = cond (length bs == 0) Clean (read_turn ts s at (es_recor
 abbrev pub sheet : List Stream → ℕ → List ℕ → Coming
 sheet ts at bs = comes (given (sheet_turn ts) None at bs)
 
-abbrev pub behind : Sheet → Coming
-behind s =
-    comes (given (sheet_turn (listed s.catalogue.now)) s.stream s.place (left s.stretch s.place))
+abbrev pub turns : Sheet → Option EventStream → ℕ → List ℕ → SheetTurn
+turns s = sheet_turn (listed s.catalogue.now)
 
 abbrev pub coming : SheetReader → Coming
-coming r = ahead r.ready (behind r.sheet)
+coming r = reads turns r.reader

@@ -1,7 +1,6 @@
 // Sheets: `ES` records open event streams, and `EV` records give their events.
 use catalogue::Catalogue;
-use event::Look;
-use media::{Stretch, Timescale};
+use media::{Reader, Timescale};
 
 mod events;
 pub mod feed;
@@ -16,18 +15,14 @@ pub struct EventStream {
     pub stream: Option<u8>,
 }
 
-// A sheet, the place that a walk over it has come to, and the event stream that governs there.
+// The rules of a sheet's records, whose streams a catalogue lists; what the records in front say is which event stream governs.
 #[derive(Clone, Copy)]
 pub struct Sheet<'a, 'c> {
-    stretch: Stretch<'a>,
     catalogue: &'c Catalogue<'a>,
-    place: u32,
-    stream: Option<EventStream>,
 }
 
-// A feed of a sheet's events: what is next, and the sheet behind it.
+// A feed of a sheet's events.
 #[derive(Clone, Copy)]
 pub struct SheetReader<'a, 'c> {
-    sheet: Sheet<'a, 'c>,
-    ready: Look,
+    reader: Reader<'a, Sheet<'a, 'c>, Option<EventStream>>,
 }

@@ -1,6 +1,6 @@
 // What readers give over short media buffers, beside the values that the formats call for.
-use event::{Ending, Event, Feed, Look, Message, Span, Time};
-use reader::{Catalogue, SegmentReader, SheetReader, Stretch, Timing};
+use event::{Event, Feed, Message, Refusal, Span, Time};
+use reader::{Catalogue, SegmentReader, SheetReader, Stretch, Times, Timing};
 use std::process::Abort;
 use std::test::Fail;
 
@@ -26,18 +26,18 @@ fn drained<F: Feed>(rt: &impl Abort, feed: &mut F) -> Result<Reading, Fail> {
     let mut first = None;
     for records in 0..64 {
         match feed.look() {
-            Look::Record(event) => {
+            Ok(Some(event)) => {
                 if records == 0 {
                     first = Some(event);
                 }
                 feed.step();
             }
-            Look::Ended(ending) => {
+            ending => {
                 feed.step();
-                assert!(rt; feed.look() == Look::Ended(ending));
+                assert!(rt; feed.look() == ending);
                 let (number, place) = match ending {
-                    Ending::Clean => (0, 0),
-                    Ending::Broken(fault) => (fault.defect.number(), fault.place),
+                    Err(fault) => (fault.defect.number(), fault.place),
+                    Ok(_) => (0, 0),
                 };
                 return Ok(Reading {
                     records,
@@ -94,9 +94,26 @@ fn segment(
     segment_of(rt, LISTED, media, from, to, timing)
 }
 
+// The timing of a segment with its earliest presentation time, offset and media timescale, and its inband offset and that one's timescale.
+fn timing(
+    earliest: u64,
+    offset: u64,
+    media_ticks: u32,
+    inband: u64,
+    inband_ticks: u32,
+) -> Result<Timing, Refusal> {
+    Timing::new(Times {
+        earliest,
+        offset,
+        media_ticks,
+        inband,
+        inband_ticks,
+    })
+}
+
 // An arrival at 4000, and an inband offset of 2000.
 fn plain() -> Result<Timing, Fail> {
-    Ok(Timing::new(5000, 1000, 1000, 2000, 1000)?)
+    Ok(timing(5000, 1000, 1000, 2000, 1000)?)
 }
 
 // The time of so many milliseconds.
@@ -253,7 +270,7 @@ fn timed(
     inband_ticks: u32,
     number: u8,
 ) -> Result<(), Fail> {
-    match Timing::new(earliest, offset, media_ticks, inband, inband_ticks) {
+    match timing(earliest, offset, media_ticks, inband, inband_ticks) {
         Ok(_) => {
             assert!(rt; number == 0);
             Ok(())

@@ -25,7 +25,7 @@ impl Timescale {
     pub fn time(self, n: u64) -> Option<Time>
         ensures { result ≡ (if nat_le (millis n self.ticks) latest then Some (time (millis n self.ticks)) else None) }
     {
-        let ticks = self.ticks as u64;
+        let ticks = u64::from(self.ticks);
         let seconds = n / ticks;
         if seconds > Time::LATEST / 1000 {
             return None;

@@ -1,10 +1,11 @@
 // Reading a run sheet record by record.
 ghost use Rattle.std.specs.Prelude.{◌≡◌, ◌+◌, ◌≤◌};
+ghost use Rattle.std.specs.Iterator.{MakesProgress, endless};
 ghost use Rattle.media.specs.Stretches.{left};
 ghost use Rattle.catalogue.specs.CatalogueWalks.{all_listed, read};
 ghost use Rattle.runsheet.specs.Commands.{command, marked};
 ghost use Rattle.runsheet.specs.Openings.{lengths, more, opening_of, records_in};
-ghost use Rattle.runsheet.specs.RunSheets.{commands_in, counted, counted_with, head_of, length_of, next_of, Onward, rest_of, WholeMedia};
+ghost use Rattle.runsheet.specs.RunSheets.{commands_in, counted, counted_with, length_of, next_of, Onward, Reads, WholeMedia};
 
 use super::RunSheet;
 use crate::commands::Command;
@@ -47,12 +48,18 @@ impl<'a> RunSheet<'a> {
         }
         Ok(catalogue)
     }
+}
+
+impl Iterator for RunSheet<'_> {
+    type Item = Result<Command, Refusal>;
+
+    ghost next_gives = { λ s r t. Reads (commands_in s) (commands_in t) r };
 
     // The next command, or the refusal of a record with an unknown mark or that is cut; none at the end.
-    pub fn next(&mut self) -> Option<Result<Command, Refusal>>
+    fn next(&mut self) -> Option<Result<Command, Refusal>>
         ensures value { result ≡ next_of self.old.place (left self.old.stretch self.old.place) }
-        ensures head { result ≡ head_of (commands_in self.old) }
-        ensures rest { commands_in self.new ≡ rest_of (commands_in self.old) }
+        ensures reads { Reads (commands_in self.old) (commands_in self.new) result }
+        ensures goes { MakesProgress (λ _. Unit {0}) (λ _. endless) self.old result self.new }
         ensures place { self.new.place ≡ self.old.place + length_of (command self.old.place (left self.old.stretch self.old.place)) }
         ensures count { self.new.count ≡ counted (left self.old.stretch self.old.place) self.old.count }
         ensures adds { self.new.count ≡ counted_with result self.old.count }

@@ -2,7 +2,6 @@
 ghost use Rattle.std.specs.Prelude.{◌≡◌};
 ghost use Rattle.segment.specs.Boxes.{body, head, kind, large_size, size_of, judged, span, version};
 
-use crate::numbers::{u32_at, u64_at};
 use crate::timings::Version;
 use event::Defect;
 
@@ -15,35 +14,26 @@ pub enum Size {
     Rest,
 }
 
-// What a reader does with a box: it stops at it, steps over it, or reads its event.
-#[derive(Clone, Copy)]
-pub enum Use {
-    Wrong(Defect),
-    Other,
-    Reads(Version),
-}
-
 // The type of the boxes that hold events: `emsg`.
 const EMSG: u32 = 0x656d_7367;
 
-// The size that stands behind the type.
+// The size that stands at the front of the bytes behind the type.
 fn large(bytes: &[u8]) -> Size
     ensures { result ≡ large_size bytes.now }
 {
-    if bytes.len() < 16 {
-        return Size::Cut;
+    match bytes.first_chunk::<8>() {
+        Some(size) => Size::Large(u64::from_be_bytes(*size)),
+        None => Size::Cut,
     }
-    Size::Large(u64_at(bytes, 8))
 }
 
 // The type of the box at the front of the bytes, unless it is cut.
 pub(crate) fn kind(bytes: &[u8]) -> Option<u32>
     ensures { result ≡ kind bytes.now }
 {
-    if bytes.len() < 8 {
-        return None;
-    }
-    Some(u32_at(bytes, 4))
+    let (_size, rest) = bytes.split_first_chunk::<4>()?;
+    let kind = rest.first_chunk::<4>()?;
+    Some(u32::from_be_bytes(*kind))
 }
 
 impl Size {
@@ -51,12 +41,12 @@ impl Size {
     pub(crate) fn of(bytes: &[u8]) -> Size
         ensures { result ≡ size_of bytes.now }
     {
-        if bytes.len() < 8 {
+        let [s0, s1, s2, s3, _, _, _, _, rest @ ..] = bytes else {
             return Size::Cut;
-        }
-        match u32_at(bytes, 0) {
+        };
+        match u32::from_be_bytes([*s0, *s1, *s2, *s3]) {
             0 => Size::Rest,
-            1 => large(bytes),
+            1 => large(rest),
             n => Size::Plain(n),
         }
     }
@@ -103,17 +93,22 @@ pub(crate) fn version(body: &[u8]) -> Option<u8>
     }
 }
 
-// What a reader does with a box of such a size, where so many bytes are left, of such a type and version.
-pub(crate) fn judge(size: Size, left: usize, kind: Option<u32>, version: Option<u8>) -> Use
+// The version of a box that gives a record, none where the box is stepped over, or what is wrong with it: by its size, where so many bytes are left, its type and its version.
+pub(crate) fn judge(
+    size: Size,
+    left: usize,
+    kind: Option<u32>,
+    version: Option<u8>,
+) -> Result<Option<Version>, Defect>
     ensures { result ≡ judged size left kind version }
 {
     match (size, kind, version) {
-        (Size::Cut, _, _) => Use::Wrong(Defect::BoxSize),
-        (Size::Plain(n), _, _) if n < 8 || n as usize > left => Use::Wrong(Defect::BoxSize),
-        (Size::Large(n), _, _) if n < 16 || n as usize > left => Use::Wrong(Defect::BoxSize),
-        (_, Some(EMSG), None) => Use::Wrong(Defect::BoxFields),
-        (_, Some(EMSG), Some(0)) => Use::Reads(Version::Zero),
-        (_, Some(EMSG), Some(1)) => Use::Reads(Version::One),
-        _ => Use::Other,
+        (Size::Cut, _, _) => Err(Defect::BoxSize),
+        (Size::Plain(n), _, _) if n < 8 || n as usize > left => Err(Defect::BoxSize),
+        (Size::Large(n), _, _) if n < 16 || n as usize > left => Err(Defect::BoxSize),
+        (_, Some(EMSG), None) => Err(Defect::BoxFields),
+        (_, Some(EMSG), Some(0)) => Ok(Some(Version::Zero)),
+        (_, Some(EMSG), Some(1)) => Ok(Some(Version::One)),
+        _ => Ok(None),
     }
 }

@@ -1,9 +1,8 @@
 // The fields of emsg boxes, as their bytes have them.
-ghost use Rattle.std.specs.Prelude.{◌≡◌, ◌<◌, length, IfSome};
+ghost use Rattle.std.specs.Prelude.{◌≡◌};
 ghost use Rattle.std.specs.Option.{option_map};
-ghost use Rattle.segment.specs.Emsgs.{closed, emsg_of, emsg_one, emsg_zero, fields, names, shut, texts, zero_from};
+ghost use Rattle.segment.specs.Emsgs.{closed, emsg_of, emsg_one, emsg_zero, fields, names, shut, texts};
 
-use crate::numbers::{u32_at, u64_at};
 use crate::timings::Version;
 use catalogue::Pair;
 
@@ -21,9 +20,10 @@ pub struct Names<'a> {
     rest: &'a [u8],
 }
 
-// The fields behind version and flags.
+// The version, and the fields behind it and the flags.
 #[derive(Clone, Copy)]
 pub struct EmsgFields<'a> {
+    pub version: Version,
     pub pair: Pair<'a>,
     pub timescale: u32,
     pub time: u64,
@@ -32,27 +32,14 @@ pub struct EmsgFields<'a> {
     pub message: &'a [u8],
 }
 
-// Where the first 0 byte stands, if there is one.
-fn zero_at(bytes: &[u8]) -> Option<usize>
-    ensures value { result ≡ zero_from 0 bytes.now }
-    ensures within { IfSome result (λ i. i < length bytes.now) }
-{
-    for (i, byte) in bytes.iter().enumerate() {
-        if *byte == 0 {
-            return Some(i);
-        }
-    }
-    None
-}
-
 impl<'a> Closed<'a> {
     // The string at the front of the bytes, unless no 0 byte closes it.
     fn read(bytes: &'a [u8]) -> Option<Closed<'a>>
         ensures { option_map closed result ≡ shut bytes.now }
     {
-        let end = zero_at(bytes)?;
+        let end = bytes.iter().position(|byte| *byte == 0)?;
         Some(Closed {
-            text: &bytes[0..end],
+            text: &bytes[..end],
             rest: &bytes[end + 1..],
         })
     }
@@ -81,17 +68,18 @@ impl<'a> EmsgFields<'a> {
         ensures { option_map fields result ≡ emsg_zero bytes.now }
     {
         let names = Names::read(bytes)?;
-        let rest = names.rest;
-        if rest.len() < 16 {
-            return None;
-        }
+        let (timescale, rest) = names.rest.split_first_chunk::<4>()?;
+        let (time, rest) = rest.split_first_chunk::<4>()?;
+        let (duration, rest) = rest.split_first_chunk::<4>()?;
+        let (id, message) = rest.split_first_chunk::<4>()?;
         Some(EmsgFields {
+            version: Version::Zero,
             pair: names.pair,
-            timescale: u32_at(rest, 0),
-            time: u32_at(rest, 4) as u64,
-            duration: u32_at(rest, 8),
-            id: u32_at(rest, 12),
-            message: &rest[16..],
+            timescale: u32::from_be_bytes(*timescale),
+            time: u64::from(u32::from_be_bytes(*time)),
+            duration: u32::from_be_bytes(*duration),
+            id: u32::from_be_bytes(*id),
+            message,
         })
     }
 
@@ -99,16 +87,18 @@ impl<'a> EmsgFields<'a> {
     fn one(bytes: &'a [u8]) -> Option<EmsgFields<'a>>
         ensures { option_map fields result ≡ emsg_one bytes.now }
     {
-        if bytes.len() < 20 {
-            return None;
-        }
-        let names = Names::read(&bytes[20..])?;
+        let (timescale, rest) = bytes.split_first_chunk::<4>()?;
+        let (time, rest) = rest.split_first_chunk::<8>()?;
+        let (duration, rest) = rest.split_first_chunk::<4>()?;
+        let (id, rest) = rest.split_first_chunk::<4>()?;
+        let names = Names::read(rest)?;
         Some(EmsgFields {
+            version: Version::One,
             pair: names.pair,
-            timescale: u32_at(bytes, 0),
-            time: u64_at(bytes, 4),
-            duration: u32_at(bytes, 12),
-            id: u32_at(bytes, 16),
+            timescale: u32::from_be_bytes(*timescale),
+            time: u64::from_be_bytes(*time),
+            duration: u32::from_be_bytes(*duration),
+            id: u32::from_be_bytes(*id),
             message: names.rest,
         })
     }

@@ -5,7 +5,7 @@ ghost use Rattle.segment.specs.Emsgs.{fields};
 ghost use Rattle.segment.specs.Segments.{event_of, lasting, span_in, span_of};
 
 use super::emsgs::EmsgFields;
-use crate::timings::{Timing, Version};
+use crate::timings::Timing;
 use catalogue::Catalogue;
 use event::{Defect, Event, Message, Span, Time};
 use media::Timescale;
@@ -21,45 +21,40 @@ impl EmsgFields<'_> {
         if self.duration == Self::UNKNOWN {
             return Ok(None);
         }
-        match timescale.time(self.duration as u64) {
-            None => Err(Defect::PastLatest),
-            known => Ok(known),
-        }
+        let duration = timescale
+            .time(u64::from(self.duration))
+            .ok_or(Defect::PastLatest)?;
+        Ok(Some(duration))
     }
 
     // Start and duration in a timescale.
-    fn span_in(self, timescale: Timescale, timing: Timing, version: Version) -> Result<Span, Defect>
-        ensures { result ≡ span_in timescale.ticks timing version (fields self.entry) }
+    fn span_in(self, timescale: Timescale, timing: Timing) -> Result<Span, Defect>
+        ensures { result ≡ span_in timescale.ticks timing (fields self.entry) }
     {
-        let Some(time) = timescale.time(self.time) else {
-            return Err(Defect::PastLatest);
-        };
+        let time = timescale.time(self.time).ok_or(Defect::PastLatest)?;
         let duration = self.lasting(timescale)?;
-        let start = timing.start(version, time)?;
+        let start = timing.start(self.version, time)?;
         Ok(Span { start, duration })
     }
 
     // Start and duration in the box's own timescale.
-    fn span(self, timing: Timing, version: Version) -> Result<Span, Defect>
-        ensures { result ≡ span_of timing version (fields self.entry) }
+    fn span(self, timing: Timing) -> Result<Span, Defect>
+        ensures { result ≡ span_of timing (fields self.entry) }
     {
-        match Timescale::new(self.timescale) {
-            Some(timescale) => self.span_in(timescale, timing, version),
-            None => Err(Defect::Timescale),
-        }
+        let timescale = Timescale::new(self.timescale).ok_or(Defect::Timescale)?;
+        self.span_in(timescale, timing)
     }
 
     // The event of the box, with a message, or what is wrong.
     pub(crate) fn event(
         self,
-        version: Version,
         timing: Timing,
         catalogue: &Catalogue,
         message: Message,
     ) -> Result<Event, Defect>
-        ensures { result ≡ event_of (listed catalogue.now) timing version message (fields self.entry) }
+        ensures { result ≡ event_of (listed catalogue.now) timing message (fields self.entry) }
     {
-        let span = self.span(timing, version)?;
+        let span = self.span(timing)?;
         Ok(Event {
             stream: catalogue.find(self.pair.scheme, self.pair.value),
             id: Some(self.id),

@@ -5,34 +5,23 @@ ghost use Rattle.segment.specs.Timings.{start_of, timing};
 
 use super::{Timing, Version};
 use event::{Defect, Refusal, Time};
-use media::Timescale;
+use media::{Times, Timescale};
 
 impl Timing {
-    // The timing of a segment with its earliest presentation time, offset and media timescale, and its inband offset and that one's timescale.
-    pub fn new(
-        earliest: u64,
-        offset: u64,
-        media_ticks: u32,
-        inband: u64,
-        inband_ticks: u32,
-    ) -> Result<Timing, Refusal>
-        ensures { answer result ≡ timing earliest offset media_ticks inband inband_ticks }
+    // The timing of a segment whose times count so.
+    pub fn new(times: Times) -> Result<Timing, Refusal>
+        ensures { answer result ≡ timing times }
     {
-        let Some(media_scale) = Timescale::new(media_ticks) else {
-            return Err(Refusal::Unreadable(Defect::Timescale));
-        };
-        let Some(inband_scale) = Timescale::new(inband_ticks) else {
-            return Err(Refusal::Unreadable(Defect::Timescale));
-        };
-        if earliest < offset {
-            return Err(Refusal::Unreadable(Defect::BelowZero));
-        }
-        let Some(arrival) = media_scale.time(earliest - offset) else {
-            return Err(Refusal::Unreadable(Defect::PastLatest));
-        };
+        let media = Timescale::new(times.media_ticks).ok_or(Defect::Timescale)?;
+        let inband = Timescale::new(times.inband_ticks).ok_or(Defect::Timescale)?;
+        let ticks = times
+            .earliest
+            .checked_sub(times.offset)
+            .ok_or(Defect::BelowZero)?;
+        let arrival = media.time(ticks).ok_or(Defect::PastLatest)?;
         Ok(Timing {
             arrival,
-            inband: inband_scale.time(inband),
+            inband: inband.time(times.inband),
         })
     }
 
@@ -47,12 +36,13 @@ impl Timing {
     pub(crate) fn start(self, version: Version, time: Time) -> Result<Time, Defect>
         ensures { result ≡ start_of self version time.ms }
     {
-        match (version, self.inband) {
-            (Version::Zero, _) => self.arrival.plus(time.ms()).ok_or(Defect::PastLatest),
-            (Version::One, Some(inband)) if inband.ms() <= time.ms() => {
-                Time::new(time.ms() - inband.ms()).ok_or(Defect::PastLatest)
+        match version {
+            Version::Zero => self.arrival.plus(time.ms()).ok_or(Defect::PastLatest),
+            Version::One => {
+                let inband = self.inband.ok_or(Defect::BelowZero)?;
+                let ms = time.ms().checked_sub(inband.ms()).ok_or(Defect::BelowZero)?;
+                Time::new(ms).ok_or(Defect::PastLatest)
             }
-            (Version::One, _) => Err(Defect::BelowZero),
         }
     }
 }

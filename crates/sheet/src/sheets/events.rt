@@ -60,33 +60,32 @@ impl EvRecord<'_> {
     fn id(self) -> Option<u32>
         ensures { result ≡ id_of (ev self.entry) }
     {
-        if self.has(Self::ID_PRESENT) {
-            Some(self.id)
-        } else {
-            None
-        }
+        self.has(Self::ID_PRESENT).then_some(self.id)
     }
 
     // Start and duration, unless the time is below the offset or one of them is past the latest time.
     fn span(self, stream: EventStream) -> Result<Span, Defect>
         ensures { result ≡ span_of stream (ev self.entry) }
     {
-        if self.time < stream.offset {
-            return Err(Defect::BelowZero);
-        }
-        let Some(start) = stream.timescale.time(self.time - stream.offset) else {
-            return Err(Defect::PastLatest);
-        };
+        let ticks = self
+            .time
+            .checked_sub(stream.offset)
+            .ok_or(Defect::BelowZero)?;
+        let start = stream.timescale.time(ticks).ok_or(Defect::PastLatest)?;
         if !self.has(Self::DURATION_KNOWN) {
             return Ok(Span {
                 start,
                 duration: None,
             });
         }
-        match stream.timescale.time(self.duration as u64) {
-            None => Err(Defect::PastLatest),
-            duration => Ok(Span { start, duration }),
-        }
+        let duration = stream
+            .timescale
+            .time(u64::from(self.duration))
+            .ok_or(Defect::PastLatest)?;
+        Ok(Span {
+            start,
+            duration: Some(duration),
+        })
     }
 
     // The event of the record under an event stream, with its message at a place, or what is wrong.
@@ -107,7 +106,7 @@ impl EvRecord<'_> {
             arrival: Time::ZERO,
             message: Message {
                 place,
-                length: self.size as u32,
+                length: u32::from(self.size),
                 base64: self.has(Self::BASE64),
             },
         })

@@ -1,6 +1,5 @@
 // A sheet reader is a feed.
 ghost use Rattle.std.specs.Prelude.{◌≡◌, None};
-ghost use Rattle.event.specs.declared.feeds.Ending.TheVariants.{Clean};
 ghost use Rattle.media.specs.Insides.{AllInside};
 ghost use Rattle.media.specs.Reaches.{Exactly, NoneAtFault, stand};
 ghost use Rattle.media.specs.Stretches.{part};
@@ -9,36 +8,30 @@ ghost use Rattle.sheet.specs.SheetWalks.{coming as comes, sheet, sheet_turn};
 
 use super::{Sheet, SheetReader};
 use catalogue::Catalogue;
-use event::{Feed, Look};
-use media::Stretch;
+use event::{Event, Fault, Feed};
+use media::{Reader, Stretch};
 
 impl<'a, 'c> SheetReader<'a, 'c> {
     // A reader of the sheet in a stretch, with the streams of a catalogue. Its events' messages stand in the stretch, and its ending is clean exactly if no record is at fault.
     pub fn new(stretch: Stretch<'a>, catalogue: &'c Catalogue<'a>) -> SheetReader<'a, 'c>
         ensures coming { comes result ≡ sheet (listed catalogue.now) stretch.entry.from (part stretch.entry) }
         ensures inside { AllInside stretch.entry.from stretch.entry.to (comes result) }
-        ensures clean { Exactly ((comes result).ending ≡ Clean) (NoneAtFault (sheet_turn (listed catalogue.now)) (stand None stretch.entry.from (part stretch.entry))) }
+        ensures clean { Exactly ((comes result).ending ≡ None) (NoneAtFault (sheet_turn (listed catalogue.now)) (stand None stretch.entry.from (part stretch.entry))) }
     {
-        let sheet = Sheet {
-            stretch,
-            catalogue,
-            place: stretch.from,
-            stream: None,
-        };
-        sheet.advance()
+        SheetReader {
+            reader: Reader::new(Sheet { catalogue }, stretch, None),
+        }
     }
 }
 
 impl<'a, 'c> Feed for SheetReader<'a, 'c> {
     ghost coming = { comes };
 
-    fn look(&self) -> Look {
-        self.ready
+    fn look(&self) -> Result<Option<Event>, Fault> {
+        self.reader.look()
     }
 
     fn step(&mut self) {
-        if let Look::Record(_) = self.ready {
-            *self = self.sheet.advance();
-        }
+        self.reader.step();
     }
 }

@@ -1,7 +1,7 @@
 // The two records of a sheet, as their bytes have them.
 ghost use Rattle.std.specs.Prelude.{◌≡◌};
 ghost use Rattle.std.specs.Option.{option_map};
-ghost use Rattle.sheet.specs.SheetRecords.{es, es_record, ev, ev_record, whole};
+ghost use Rattle.sheet.specs.SheetRecords.{es, es_record, ev, ev_record};
 
 use catalogue::Pair;
 
@@ -46,7 +46,7 @@ impl<'a> EsRecord<'a> {
             timescale: u32::from_be_bytes([*t0, *t1, *t2, *t3]),
             offset: u64::from_be_bytes([*o0, *o1, *o2, *o3, *o4, *o5, *o6, *o7]),
             pair,
-            length: 16 + *scheme as u32 + *value as u32,
+            length: 16 + u32::from(*scheme) + u32::from(*value),
         })
     }
 }
@@ -95,7 +95,7 @@ impl<'a> EvRecord<'a> {
             return None;
         };
         let size = u16::from_be_bytes([*l0, *l1]);
-        let message = whole(rest, size)?;
+        let message = rest.get(..usize::from(size))?;
         Some(EvRecord {
             flags: *flags,
             time: u64::from_be_bytes([*p0, *p1, *p2, *p3, *p4, *p5, *p6, *p7]),
@@ -105,15 +105,4 @@ impl<'a> EvRecord<'a> {
             message,
         })
     }
-}
-
-// So many bytes at the front, unless they are cut.
-fn whole(bytes: &[u8], length: u16) -> Option<&[u8]>
-    ensures { option_map (λ x. x.now) result ≡ whole length bytes.now }
-{
-    let length = length as usize;
-    if bytes.len() < length {
-        return None;
-    }
-    Some(&bytes[0..length])
 }

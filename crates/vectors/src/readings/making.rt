@@ -1,6 +1,5 @@
 // Stretches, timings and catalogues: what is made, and what is refused.
-use super::{counted, listed, stretched, timed};
-use reader::Timing;
+use super::{counted, listed, stretched, timed, timing};
 use std::test::Fail;
 
 // Stretches that are inside the media buffer or not.
@@ -58,77 +57,77 @@ fn timings(rt: HostRuntime) -> Result<(), Fail> {
 fn starts(rt: HostRuntime) -> Result<(), Fail> {
     counted(
         &rt,
-        Timing::new(5, 0, 3, 0, 1)?,
+        timing(5, 0, 3, 0, 1)?,
         b"\0\0\0\x1femsg\0\0\0\0a\0\0\0\0\0\x03\0\0\0\x02\0\0\0\0\0\0\0\0",
         2332,
         0,
     )?;
     counted(
         &rt,
-        Timing::new(7, 2, 3, 0, 1)?,
+        timing(7, 2, 3, 0, 1)?,
         b"\0\0\0\x1femsg\0\0\0\0a\0\0\0\0\0\x03\0\0\0\x02\0\0\0\0\0\0\0\0",
         2332,
         0,
     )?;
     counted(
         &rt,
-        Timing::new(0, 0, 1, 2, 3)?,
+        timing(0, 0, 1, 2, 3)?,
         b"\0\0\0#emsg\x01\0\0\0\0\0\0\x03\0\0\0\0\0\0\0\x04\0\0\0\0\0\0\0\0a\0\0",
         667,
         0,
     )?;
     counted(
         &rt,
-        Timing::new(9, 0, 1, 1, 1)?,
+        timing(9, 0, 1, 1, 1)?,
         b"\0\0\0#emsg\x01\0\0\0\0\0\0\x01\0\0\0\0\0\0\0\x01\0\0\0\0\0\0\0\0a\0\0",
         0,
         0,
     )?;
     counted(
         &rt,
-        Timing::new(0, 0, 1, 18_446_744_073_709_551_615, 1)?,
+        timing(0, 0, 1, 18_446_744_073_709_551_615, 1)?,
         b"\0\0\0\x1femsg\0\0\0\0a\0\0\0\0\0\x01\0\0\0\x01\0\0\0\0\0\0\0\0",
         1000,
         0,
     )?;
     counted(
         &rt,
-        Timing::new(0, 0, 1, 18_446_744_073_709_551_615, 1)?,
+        timing(0, 0, 1, 18_446_744_073_709_551_615, 1)?,
         b"\0\0\0#emsg\x01\0\0\0\0\0\0\x01\0\0\0\0\0\0\0\x01\0\0\0\0\0\0\0\0a\0\0",
         0,
         9,
     )?;
     counted(
         &rt,
-        Timing::new(0, 0, 1, 18_446_744_073_709_551_615, 1)?,
+        timing(0, 0, 1, 18_446_744_073_709_551_615, 1)?,
         b"\0\0\0#emsg\x01\0\0\0\0\0\0\x01\0\0\0\0\xeek(\x01\0\0\0\0\0\0\0\0a\0\0",
         0,
         10,
     )?;
     counted(
         &rt,
-        Timing::new(0, 0, 1, 4_000_000_000, 1)?,
+        timing(0, 0, 1, 4_000_000_000, 1)?,
         b"\0\0\0#emsg\x01\0\0\0\0\0\0\x01\0\0\0\0\xeek(\0\0\0\0\0\0\0\0\0a\0\0",
         0,
         0,
     )?;
     counted(
         &rt,
-        Timing::new(4_000_000_000, 0, 1, 0, 1)?,
+        timing(4_000_000_000, 0, 1, 0, 1)?,
         b"\0\0\0\x1femsg\0\0\0\0a\0\0\0\0\0\x01\0\0\0\0\0\0\0\0\0\0\0\0",
         4_000_000_000_000,
         0,
     )?;
     counted(
         &rt,
-        Timing::new(4_000_000_000, 0, 1, 0, 1)?,
+        timing(4_000_000_000, 0, 1, 0, 1)?,
         b"\0\0\0\x1femsg\0\0\0\0a\0\0\0\0\x03\xe8\0\0\0\x01\0\0\0\0\0\0\0\0",
         0,
         10,
     )?;
     counted(
         &rt,
-        Timing::new(0, 0, 1, 0, 1)?,
+        timing(0, 0, 1, 0, 1)?,
         b"\0\0\0#emsg\x01\0\0\0\0\0\0\x01\0\0\0\0\xeek(\0\0\0\0\0\0\0\0\0a\0\0",
         4_000_000_000_000,
         0,

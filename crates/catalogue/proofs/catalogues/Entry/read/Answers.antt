@@ -18,12 +18,6 @@ ends_within c =
     let f = (it c).fits in
     let p = part_fits c.args.stretch.media.now c.args.place c.args.stretch.to in omega arith
 
-pub overflow_cast-value : goal.overflow_cast-value
-overflow_cast-value c = let h = ends_within c in omega arith
-
-pub overflow_add-value : goal.overflow_add-value
-overflow_add-value c = let h = ends_within c in omega arith
-
 pub overflow_add-end : goal.overflow_add-end
 overflow_add-end c = let h = ends_within c in omega arith
 
