@@ -104,17 +104,17 @@ pub(crate) fn unused() -> Dispatch {
 
 // Draws from a feed of one record, or of none and an ending.
 fn draw<S: Sink>(player: &mut Player, mut feed: One, sink: &mut S) -> Said {
-    let present = feed.present;
+    let record = feed.event;
     match player.draw(&mut feed, sink) {
         Ok(drawn) => {
-            if feed.present {
+            if feed.event.is_some() {
                 Said::Wrong
             } else {
                 Said::Drew(drawn)
             }
         }
         Err(refusal) => {
-            if feed.present == present {
+            if feed.event == record {
                 refused(refusal)
             } else {
                 Said::Wrong

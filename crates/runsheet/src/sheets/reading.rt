@@ -5,7 +5,7 @@ use super::RunSheet;
 
 impl RunSheet<'_> {
     // How many records were read, the one that was refused among them.
-    pub fn count(&self) -> u64
+    pub fn records_read(&self) -> u64
         ensures { result ≡ self.now.count }
     {
         self.count
