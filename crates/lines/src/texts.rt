@@ -39,10 +39,7 @@ fn id(dispatch: Dispatch) -> OrDash
     ensures { result.number ≡ dispatch.id }
 {
     OrDash {
-        number: match dispatch.id {
-            None => None,
-            Some(id) => Some(u64::from(id)),
-        },
+        number: dispatch.id.map(u64::from),
     }
 }
 
@@ -51,10 +48,7 @@ fn duration(dispatch: Dispatch) -> OrDash
     ensures { result.number ≡ option_map milliseconds dispatch.span.duration }
 {
     OrDash {
-        number: match dispatch.span.duration {
-            None => None,
-            Some(duration) => Some(duration.ms()),
-        },
+        number: dispatch.span.duration.map(|duration| duration.ms()),
     }
 }
 

@@ -36,14 +36,14 @@ impl<'a> Opening<'a> {
             Ok(sheet) => sheet,
         };
         match sheet.catalogue() {
-            Err(refusal) => Opening::refused(sheet.count(), refusal),
+            Err(refusal) => Opening::refused(sheet.records_read(), refusal),
             Ok(catalogue) => Opening {
                 script: Some(Script {
                     media,
                     sheet,
                     catalogue,
                 }),
-                count: sheet.count(),
+                count: sheet.records_read(),
                 done: Ok(()),
             },
         }

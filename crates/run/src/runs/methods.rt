@@ -1,5 +1,6 @@
 // The lines of a run, one by one.
 ghost use Rattle.std.specs.Prelude.{◌≡◌, ◌<◌, ◌≤◌, true, false, List, [], ◌∷◌, length, MatchOption};
+ghost use Rattle.std.specs.Iterator.{MakesProgress, YieldsFirst, item_count};
 ghost use Rattle.player.specs.Players.{state};
 ghost use Rattle.sink.specs.Lists.{held_in};
 ghost use Rattle.run.specs.Lines.{closing};
@@ -35,24 +36,6 @@ impl<'a, 't, 'p> Run<'a, 't, 'p> {
             count: opening.count,
             done: opening.done,
             stage: Stage::First,
-        }
-    }
-
-    // The next line, unless the last one was reported.
-    pub fn next(&mut self) -> Option<Line>
-        ensures ending { ending self.new ≡ ending self.old }
-        ensures cases { MatchOption result ((left self.old ≡ []) × (self.new ≡ self.old)) (λ l. left self.old ≡ l ∷ left self.new) }
-    {
-        match self.stage {
-            Stage::First => {
-                self.stage = Stage::Middle;
-                Some(Line::First)
-            }
-            Stage::Middle => {
-                self.read_on();
-                Some(self.report())
-            }
-            Stage::Ended => None,
         }
     }
 
@@ -96,7 +79,7 @@ impl<'a, 't, 'p> Run<'a, 't, 'p> {
         };
         self.script = None;
         if let Some(next) = script.sheet.next() {
-            self.count = script.sheet.count();
+            self.count = script.sheet.records_read();
             match next {
                 Err(refusal) => self.done = Err(refusal),
                 Ok(command) => {
@@ -111,16 +94,11 @@ impl<'a, 't, 'p> Run<'a, 't, 'p> {
     fn next_told(&self) -> Option<Dispatch>
         ensures { MatchOption result (length (holding self.now).told ≤ self.now.shown) (NextTold (holding self.now).told self.now.shown) }
     {
-        let told = self.list.told();
-        if self.shown < told.len() {
-            Some(told[self.shown])
-        } else {
-            None
-        }
+        self.list.told().get(self.shown).copied()
     }
 
     // The last line.
-    fn last(&self) -> Line
+    fn last_line(&self) -> Line
         ensures { result ∷ [] ≡ closing (playing self.now) }
     {
         Line::Last {
@@ -147,8 +125,36 @@ impl<'a, 't, 'p> Run<'a, 't, 'p> {
             }
             Ok(()) => {
                 self.stage = Stage::Ended;
-                self.last()
+                self.last_line()
             }
+        }
+    }
+}
+
+impl<'a, 't, 'p> Iterator for Run<'a, 't, 'p> {
+    type Item = Line;
+
+    ghost next_gives = { YieldsFirst left };
+
+    ghost remaining = { item_count left };
+
+    // The next line, unless the last one was reported.
+    fn next(&mut self) -> Option<Line>
+        ensures steps { YieldsFirst left self.old result self.new }
+        ensures goes { MakesProgress (λ _. Unit {0}) (item_count left) self.old result self.new }
+        ensures ending { ending self.new ≡ ending self.old }
+        ensures cases { MatchOption result ((left self.old ≡ []) × (self.new ≡ self.old)) (λ l. left self.old ≡ l ∷ left self.new) }
+    {
+        match self.stage {
+            Stage::First => {
+                self.stage = Stage::Middle;
+                Some(Line::First)
+            }
+            Stage::Middle => {
+                self.read_on();
+                Some(self.report())
+            }
+            Stage::Ended => None,
         }
     }
 }

@@ -1,14 +1,12 @@
-use Rattle.std.proofs.Common.{◌+◌, ◌∷◌, drop, sym, ap, ◌∙◌, subst, arith}
-use Rattle.std.proofs.lemmas.List.{drop_more}
+use Rattle.std.proofs.Common.{◌≤◌, length, sym, subst, arith}
+use Rattle.std.specs.Option.{MatchOption}
 use Rattle.run.specs.Runs.{NextTold}
+use Rattle.run.proofs.Reports.{told_next}
 use Rattle.run.proofs.runs.Run.next_told.Goals as goal
 
-pub returns-then-self-told : goal.returns-then-self-told
-returns-then-self-told c =
-    let ds = c.told-told.result.now in
+pub returns : goal.returns
+returns c =
     let n = c.args.self.now.shown in
-    let d = c.index-told-self.result in
-    subst (λ xs. NextTold xs n d) c.told-told.ensures (record {
-      within = omega (arith, c.if-self-told.true);
-      is = drop_more ds n d c.if-self-told.true ∙ ap (λ x. x ∷ drop (n + 1) ds) (sym c.index-told-self.is);
-    })
+    let ds = c.told.result.now in
+    subst (λ xs. MatchOption c.copied.result (length xs ≤ n) (NextTold xs n)) c.told.ensures
+    (subst (λ r. MatchOption r (length ds ≤ n) (NextTold ds n)) (sym c.copied.ensures) (told_next ds n c.get.result c.get.ensures.lookup.0 c.get.ensures.lookup.1 (omega arith)))

@@ -36,6 +36,6 @@ returns-in-Ok c =
       lines =
           ap (λ s. left_at s (pending r)) c.requires.middle ∙
           reported (holding r).told r.shown r.count r.done (onward r.script (playing r) (holding r)) fine all ∙
-          nothing_to_read r.script (playing r) (holding r) b busy nothing ∙ sym c.last.ensures;
+          nothing_to_read r.script (playing r) (holding r) b busy nothing ∙ sym c.last_line.ensures;
       ending = nothing_to_perform r.script (playing r) (holding r) b busy nothing ∙ ap (λ s. ending_at s (playing r, holding r) (to_come r)) (sym c.requires.middle);
     }

@@ -19,9 +19,9 @@ returns-in_default-next c =
     record {
       lines =
           reported (holding r).told c.told-self.result r.count r.done (closing (playing r)) (idle_is r c.requires).fine (omega arith) ∙
-          behind_end s.media.now (listed s.catalogue) s.sheet.count (playing r) (holding r) (commands_in s.sheet) c.in_default-next.ensures.head ∙
+          behind_end s.media.now (listed s.catalogue) s.sheet.count (playing r) (holding r) (commands_in s.sheet) c.in_default-next.ensures.reads.head ∙
           idle_pending r s c.requires c.in-Some.is;
-      ending = played_end s.media.now (listed s.catalogue) s.sheet.count (playing r) (holding r) (commands_in s.sheet) c.in_default-next.ensures.head ∙ ap (λ o. outcome o (playing r) (holding r)) (sym c.in-Some.is);
+      ending = played_end s.media.now (listed s.catalogue) s.sheet.count (playing r) (holding r) (commands_in s.sheet) c.in_default-next.ensures.reads.head ∙ ap (λ o. outcome o (playing r) (holding r)) (sym c.in-Some.is);
       stage = refl;
       less = subst (λ o. 0 < unread o) (sym c.in-Some.is) (omega arith);
     }
@@ -35,11 +35,11 @@ returns-in-Err c =
     let next = c.in-Some-next.ensures in
     record {
       lines =
-          ap (λ ds. reports ds c.count-self.result (refusal e) (closing (playing r))) (drop_all c.told-self.result (holding r).told (omega arith)) ∙
-          ap (λ n. reports [] n (refusal e) (closing (playing r))) (c.count-self.ensures ∙ next.adds) ∙
-          behind_stop s.media.now (listed s.catalogue) s.sheet.count (playing r) (holding r) (commands_in s.sheet) e (ap Some (sym c.in-Err.is) ∙ next.head) ∙
+          ap (λ ds. reports ds c.records_read-self.result (refusal e) (closing (playing r))) (drop_all c.told-self.result (holding r).told (omega arith)) ∙
+          ap (λ n. reports [] n (refusal e) (closing (playing r))) (c.records_read-self.ensures ∙ next.adds) ∙
+          behind_stop s.media.now (listed s.catalogue) s.sheet.count (playing r) (holding r) (commands_in s.sheet) e (ap Some (sym c.in-Err.is) ∙ next.reads.head) ∙
           idle_pending r s c.requires c.in-Some.is;
-      ending = played_stop s.media.now (listed s.catalogue) s.sheet.count (playing r) (holding r) (commands_in s.sheet) e (ap Some (sym c.in-Err.is) ∙ next.head) ∙ ap (λ o. outcome o (playing r) (holding r)) (sym c.in-Some.is);
+      ending = played_stop s.media.now (listed s.catalogue) s.sheet.count (playing r) (holding r) (commands_in s.sheet) e (ap Some (sym c.in-Err.is) ∙ next.reads.head) ∙ ap (λ o. outcome o (playing r) (holding r)) (sym c.in-Some.is);
       stage = refl;
       less = subst (λ o. 0 < unread o) (sym c.in-Some.is) (omega arith);
     }
@@ -53,14 +53,14 @@ returns-in-Ok c =
     let w = state c.perform-self.new.player in
     let h = held_in c.perform-self.new.sink in
     let a = answer c.perform-self.result in
-    let is = ap Some (sym c.in-Ok.is) ∙ next.head in
-    let counted = c.count-self.ensures ∙ next.adds in
+    let is = ap Some (sym c.in-Ok.is) ∙ next.reads.head in
+    let counted = c.records_read-self.ensures ∙ next.adds in
     record {
       lines =
           (λ i. reports (drop (c.told-self.ensures i) h.told) (counted i) a (behind (commands_in t) (next.adds i) s.media.now (listed s.catalogue) w h)) ∙
-          behind_command s.media.now (listed s.catalogue) s.sheet.count (playing r) (holding r) (commands_in s.sheet) (commands_in t) c.in-Ok.command (a, w, h) is next.rest c.perform-self.ensures ∙
+          behind_command s.media.now (listed s.catalogue) s.sheet.count (playing r) (holding r) (commands_in s.sheet) (commands_in t) c.in-Ok.command (a, w, h) is next.reads.rest c.perform-self.ensures ∙
           idle_pending r s c.requires c.in-Some.is;
-      ending = played_command s.media.now (listed s.catalogue) s.sheet.count (playing r) (holding r) (commands_in s.sheet) (commands_in t) c.in-Ok.command (a, w, h) is next.rest c.perform-self.ensures ∙ ap (λ o. outcome o (playing r) (holding r)) (sym c.in-Some.is);
+      ending = played_command s.media.now (listed s.catalogue) s.sheet.count (playing r) (holding r) (commands_in s.sheet) (commands_in t) c.in-Ok.command (a, w, h) is next.reads.rest c.perform-self.ensures ∙ ap (λ o. outcome o (playing r) (holding r)) (sym c.in-Some.is);
       stage = refl;
-      less = subst (λ o. unread (Some (record { media = s.media; sheet = t; catalogue = s.catalogue })) < unread o) (sym c.in-Some.is) (less_to_read (commands_in s.sheet) (commands_in t) c.in-Ok.command is next.rest);
+      less = subst (λ o. unread (Some (record { media = s.media; sheet = t; catalogue = s.catalogue })) < unread o) (sym c.in-Some.is) (less_to_read (commands_in s.sheet) (commands_in t) c.in-Ok.command is next.reads.rest);
     }
