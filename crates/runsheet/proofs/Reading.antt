@@ -2,9 +2,9 @@
 use Rattle.std.proofs.Common.{◌≡◌, ℕ, ◌+◌, ◌-◌, ◌<◌, ◌≤◌, true, cond, ◌&&◌, eqb, leb, List, length, drop, Some, None, Option, refl, inl, inr, arith}
 use Rattle.std.specs.List.{between}
 use Rattle.std.proofs.lemmas.List.{length-drop, length-take}
-use Rattle.std.proofs.lemmas.Bool.{and_parts, cases_Bool, cond_both, eqb-true, leb-true}
-use Rattle.event.specs.BigEndian.{num16, num64}
-use Rattle.runsheet.specs.Commands.{Goes, Read, command, draw_sheet, marked, segment_length, segment_of}
+use Rattle.std.proofs.lemmas.Bool.{and_parts, cases_Bool, cond_both, eqb-true, le-leb, leb-true}
+use Rattle.event.specs.BigEndian.{num16, num32, num64}
+use Rattle.runsheet.specs.Commands.{Goes, Read, command, draw_sheet, marked, segment_length, segment_of, segment_times}
 use Rattle.runsheet.specs.RunSheets.{length_of}
 use Rattle.runsheet.specs.declared.commands.Command.{Command}
 use Rattle.media.specs.declared.times.Times.{Times}
@@ -27,6 +27,10 @@ segment_fits bs n e =
           let z : ◌≡◌ {A = ℕ} 0 1 = cc in
           absurd (omega arith)
     ]
+
+-- the times of a segment, each by its place
+pub times_read : (bs : List ℕ) (e o s p q : ℕ) → 32 ≤ length bs → e ≡ num64 bs 0 → o ≡ num64 bs 8 → s ≡ num32 bs 16 → p ≡ num64 bs 20 → q ≡ num32 bs 28 → Some (record { earliest = e; offset = o; media_ticks = s; inband = p; inband_ticks = q }) ≡ segment_times bs
+times_read bs e o s p q h a b c d f = rw (le-leb 32 (length bs) h, a, b, c, d, f)
 
 -- a record that was read has at least one byte, and at most n
 abbrev pub Fits : ℕ → Read → Type 0

@@ -1,9 +1,10 @@
 // Reading a command from the bytes of its record.
-ghost use Rattle.std.specs.Prelude.{◌≡◌, length};
+ghost use Rattle.std.specs.Prelude.{◌≡◌, length, if◌then◌else◌, Some, None, nat_le};
+ghost use Rattle.event.specs.BigEndian.{num64};
 ghost use Rattle.runsheet.specs.Commands.{Goes, command, draw_segment, draw_sheet, evict, segment_length, segment_times};
 
 use super::Command;
-use event::{Mode, u16_at, u32_at, u64_at};
+use event::{Mode, chunk_at};
 use media::Times;
 
 impl Command {
@@ -18,8 +19,8 @@ impl Command {
                 Some((Command::Follow { stream, mode }, 4))
             }
             [b'L', b'V', stream, ..] => Some((Command::Leave { stream: *stream }, 3)),
-            [b'P', b'L', ..] => u64_at(bytes, 2).map(|to| (Command::Play { to }, 10)),
-            [b'S', b'K', ..] => u64_at(bytes, 2).map(|to| (Command::Seek { to }, 10)),
+            [b'P', b'L', ..] => time(bytes).map(|to| (Command::Play { to }, 10)),
+            [b'S', b'K', ..] => time(bytes).map(|to| (Command::Seek { to }, 10)),
             [b'E', b'X', ..] => evict(bytes),
             [b'M', b'P', ..] => draw_sheet(place, bytes),
             [b'S', b'G', ..] => draw_segment(place, bytes),
@@ -28,13 +29,20 @@ impl Command {
     }
 }
 
+// The time behind the mark of a record, unless it is cut.
+fn time(bytes: &[u8]) -> Option<u64>
+    ensures { result ≡ (if nat_le 10 (length bytes.now) then Some (num64 bytes.now 2) else None) }
+{
+    chunk_at(bytes, 2).map(|time| u64::from_be_bytes(*time))
+}
+
 // `EX`: two times.
 fn evict(bytes: &[u8]) -> Option<(Command, u32)>
     ensures value { result ≡ evict bytes.now }
     ensures length { Goes result (length bytes.now) }
 {
-    let from = u64_at(bytes, 2)?;
-    let to = u64_at(bytes, 10)?;
+    let from = u64::from_be_bytes(*chunk_at(bytes, 2)?);
+    let to = u64::from_be_bytes(*chunk_at(bytes, 10)?);
     Some((Command::Evict { from, to }, 18))
 }
 
@@ -43,8 +51,8 @@ fn draw_sheet(place: u32, bytes: &[u8]) -> Option<(Command, u32)>
     ensures value { result ≡ draw_sheet place bytes.now }
     ensures length { Goes result (length bytes.now) }
 {
-    let start = u64_at(bytes, 2)?;
-    let length = u16_at(bytes, 10)?;
+    let start = u64::from_be_bytes(*chunk_at(bytes, 2)?);
+    let length = u16::from_be_bytes(*chunk_at(bytes, 10)?);
     if bytes.len() < 12 + usize::from(length) {
         return None;
     }
@@ -61,7 +69,7 @@ fn draw_segment(place: u32, bytes: &[u8]) -> Option<(Command, u32)>
     ensures value { result ≡ draw_segment place bytes.now }
     ensures length { Goes result (length bytes.now) }
 {
-    let start = u64_at(bytes, 2)?;
+    let start = u64::from_be_bytes(*chunk_at(bytes, 2)?);
     let fields = &bytes[10..];
     let times = segment_times(fields)?;
     let length = segment_length(fields)?;
@@ -83,11 +91,11 @@ fn segment_times(bytes: &[u8]) -> Option<Times>
     ensures { result ≡ segment_times bytes.now }
 {
     Some(Times {
-        earliest: u64_at(bytes, 0)?,
-        offset: u64_at(bytes, 8)?,
-        media_ticks: u32_at(bytes, 16)?,
-        inband: u64_at(bytes, 20)?,
-        inband_ticks: u32_at(bytes, 28)?,
+        earliest: u64::from_be_bytes(*chunk_at(bytes, 0)?),
+        offset: u64::from_be_bytes(*chunk_at(bytes, 8)?),
+        media_ticks: u32::from_be_bytes(*chunk_at(bytes, 16)?),
+        inband: u64::from_be_bytes(*chunk_at(bytes, 20)?),
+        inband_ticks: u32::from_be_bytes(*chunk_at(bytes, 28)?),
     })
 }
 
@@ -95,7 +103,7 @@ fn segment_times(bytes: &[u8]) -> Option<Times>
 fn segment_length(bytes: &[u8]) -> Option<u16>
     ensures { result ≡ segment_length bytes.now }
 {
-    let length = u16_at(bytes, 32)?;
+    let length = u16::from_be_bytes(*chunk_at(bytes, 32)?);
     if bytes.len() < 34 + usize::from(length) {
         return None;
     }

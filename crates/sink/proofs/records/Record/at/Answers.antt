@@ -2,7 +2,7 @@ use Rattle.std.proofs.Common.{◌≡◌, true, get_or, drop, take, Some, ap, ◌
 use Rattle.std.proofs.lemmas.List.{drop-drop, take_rest}
 use Rattle.std.proofs.lemmas.Bool.{cond-true}
 use Rattle.sink.specs.Records.{marked}
-use Rattle.sink.proofs.Numbers.{number32, number64}
+use Rattle.event.proofs.InBytes.{number32, number64}
 use Rattle.sink.proofs.records.Record.at.Goals as goal
 
 pub returns : goal.returns
