@@ -32,8 +32,7 @@ fn print_lines<'a, 't, 'p, W: Write>(
     list: &'p mut RecordList<'t>,
     out: &mut W,
 ) -> io::Result<()> {
-    let mut run = Run::new(opening, player, list);
-    while let Some(line) = run.next() {
+    for line in Run::new(opening, player, list) {
         writeln!(out, "{line}")?;
     }
     Ok(())
