@@ -1,29 +1,11 @@
 // cues: runs the run sheet on standard input, and prints the lines that it reports.
 #![tactic(auto)]
 
-use event::{Dispatch, Message, Span, Time, Trigger};
 use player::{Kept, Player, Tables, UsedId};
 use run::{Opening, Run};
-use sink::RecordList;
+use sink::{NO_DISPATCH, RecordList};
 use std::io;
 use std::io::{BufWriter, Read, Write};
-
-// What a slot of the record list holds before it is used.
-const NO_DISPATCH: Dispatch = Dispatch {
-    position: Time::ZERO,
-    trigger: Trigger::Receive,
-    stream: 0,
-    id: None,
-    span: Span {
-        start: Time::ZERO,
-        duration: None,
-    },
-    message: Message {
-        place: 0,
-        length: 0,
-        base64: false,
-    },
-};
 
 // Prints each line of a run as it is reported.
 fn print_lines<'a, 't, 'p, W: Write>(
@@ -32,8 +14,7 @@ fn print_lines<'a, 't, 'p, W: Write>(
     list: &'p mut RecordList<'t>,
     out: &mut W,
 ) -> io::Result<()> {
-    let mut run = Run::new(opening, player, list);
-    while let Some(line) = run.next() {
+    for line in Run::new(opening, player, list) {
         writeln!(out, "{line}")?;
     }
     Ok(())

@@ -1,5 +1,5 @@
 -- What the opening of a run sheet leads to.
-use Rattle.std.proofs.Common.{◌≡◌, ℕ, ◌+◌, true, leb, List, [], ◌∷◌, length, drop, Some, None, Ok, Err, sym, ap, ◌∙◌, subst, arith}
+use Rattle.std.proofs.Common.{◌≡◌, ℕ, ◌+◌, true, leb, List, [], ◌∷◌, length, drop, Ok, Err, sym, ap, ◌∙◌, subst, arith}
 use Rattle.std.specs.List.{between}
 use Rattle.std.proofs.lemmas.List.{take_rest}
 use Rattle.std.proofs.lemmas.Bool.{cond-true}
@@ -55,7 +55,7 @@ module _ (m : List ℕ) (s t : RunSheet) (whole : Whole m s) (after : Behind s t
       ap (λ x. commands n (between n x.to x.media)) whole.over ∙ ap (commands n) (take_rest m n)
 
   -- a run sheet whose catalogue was read
-  pub opens_listed : (o : Opening) (c : Script) (n : ℕ) → o ≡ record { script = Some c; count = n; done = Ok tt } → c.sheet ≡ t → c.media.now ≡ m → did (listed c.catalogue) ≡ all_listed (opening_of s) → Opens m o
+  pub opens_listed : (o : Opening) (c : Script) (n : ℕ) → o ≡ record { script = Ok c; count = n } → c.sheet ≡ t → c.media.now ≡ m → did (listed c.catalogue) ≡ all_listed (opening_of s) → Opens m o
   opens_listed o c n is sheet media lists =
       let all : did (listed c.catalogue) ≡ all_listed (opening 0 m) = lists ∙ ap all_listed (opening_whole m s whole) in
       subst (Opens m) (sym is) (record {
@@ -68,7 +68,7 @@ module _ (m : List ℕ) (s t : RunSheet) (whole : Whole m s) (after : Behind s t
       })
 
   -- a run sheet whose catalogue is refused
-  pub opens_refused : (o : Opening) (n : ℕ) (e : Refusal) → o ≡ record { script = None; count = n; done = Err e } → n ≡ t.count → refusal e ≡ all_listed (opening_of s) → Opens m o
+  pub opens_refused : (o : Opening) (n : ℕ) (e : Refusal) → o ≡ record { script = Err e; count = n } → n ≡ t.count → refusal e ≡ all_listed (opening_of s) → Opens m o
   opens_refused o n e is count lists =
       let all : refusal e ≡ all_listed (opening 0 m) = lists ∙ ap all_listed (opening_whole m s whole) in
       subst (Opens m) (sym is) (record {

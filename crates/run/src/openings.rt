@@ -13,10 +13,9 @@ pub(crate) struct Script<'a> {
     pub(crate) catalogue: Catalogue<'a>,
 }
 
-// What there is to read, nothing after a refusal; how many records were counted; and whether the last of them was refused.
+// What there is to read, or the refusal of a record in front of it; and how many records were counted.
 #[derive(Clone, Copy)]
 pub struct Opening<'a> {
-    pub(crate) script: Option<Script<'a>>,
+    pub(crate) script: Result<Script<'a>, Refusal>,
     pub(crate) count: u64,
-    pub(crate) done: Result<(), Refusal>,
 }

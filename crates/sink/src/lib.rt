@@ -6,6 +6,6 @@ pub mod logs;
 pub mod reading;
 pub mod records;
 
-pub use lists::RecordList;
+pub use lists::{NO_DISPATCH, RecordList};
 pub use logs::ByteLog;
 pub use reading::read_log;

@@ -1,28 +1,11 @@
 // The lines that run sheets report, beside those that are expected.
 use crate::records::{number, run_sheet, word};
-use event::{Dispatch, Message, Span, Time, Trigger};
 use player::{Kept, Player, Tables, UsedId};
 use run::{Opening, Run};
-use sink::RecordList;
+use sink::{NO_DISPATCH, RecordList};
 use std::alloc::Global;
 use std::process::Abort;
 use std::test::*;
-
-const NO_DISPATCH: Dispatch = Dispatch {
-    position: Time::ZERO,
-    trigger: Trigger::Receive,
-    stream: 0,
-    id: None,
-    span: Span {
-        start: Time::ZERO,
-        duration: None,
-    },
-    message: Message {
-        place: 0,
-        length: 0,
-        base64: false,
-    },
-};
 
 // Adds each line of a run.
 fn add_lines<'a, 't, 'p>(
@@ -31,8 +14,7 @@ fn add_lines<'a, 't, 'p>(
     player: &'p mut Player<'t>,
     list: &'p mut RecordList<'t>,
 ) -> Result<(), Fail> {
-    let mut run = Run::new(opening, player, list);
-    while let Some(line) = run.next() {
+    for line in Run::new(opening, player, list) {
         writeln!(text, "{line}")?;
     }
     Ok(())

@@ -1,5 +1,5 @@
 // Opening a run sheet, and performing its commands.
-ghost use Rattle.std.specs.Prelude.{◌≡◌, None, Err};
+ghost use Rattle.std.specs.Prelude.{◌≡◌, Err};
 ghost use Rattle.event.specs.Numbers.{answer};
 ghost use Rattle.catalogue.specs.Catalogues.{listed};
 ghost use Rattle.player.specs.Players.{state};
@@ -38,25 +38,23 @@ impl<'a> Opening<'a> {
         match sheet.catalogue() {
             Err(refusal) => Opening::refused(sheet.records_read(), refusal),
             Ok(catalogue) => Opening {
-                script: Some(Script {
+                script: Ok(Script {
                     media,
                     sheet,
                     catalogue,
                 }),
                 count: sheet.records_read(),
-                done: Ok(()),
             },
         }
     }
 
     // Nothing is read behind a record that was refused.
     fn refused(count: u64, refusal: Refusal) -> Opening<'a>
-        ensures { result ≡ record { script = None; count = count; done = Err refusal } }
+        ensures { result ≡ record { script = Err refusal; count = count } }
     {
         Opening {
-            script: None,
+            script: Err(refusal),
             count,
-            done: Err(refusal),
         }
     }
 
@@ -65,8 +63,8 @@ impl<'a> Opening<'a> {
         ensures { result.count ≡ listed_by self.now.script }
     {
         match self.script {
-            None => StreamCount::at_most(0),
-            Some(script) => script.catalogue.streams(),
+            Err(_) => StreamCount::at_most(0),
+            Ok(script) => script.catalogue.streams(),
         }
     }
 }

@@ -1,5 +1,6 @@
 // The lines of a run, one by one.
 ghost use Rattle.std.specs.Prelude.{◌≡◌, ◌<◌, ◌≤◌, true, false, List, [], ◌∷◌, length, MatchOption};
+ghost use Rattle.std.specs.Result.{result_ok};
 ghost use Rattle.std.specs.Iterator.{MakesProgress, YieldsFirst, item_count};
 ghost use Rattle.player.specs.Players.{state};
 ghost use Rattle.sink.specs.Lists.{held_in};
@@ -24,17 +25,17 @@ impl<'a, 't, 'p> Run<'a, 't, 'p> {
         list: &'p mut RecordList<'t>,
     ) -> Run<'a, 't, 'p>
         ensures whole { Whole opening.entry (state player.old) (held_in list.old) (left result) }
-        ensures ending { ending result ≡ outcome opening.entry.script (state player.old) (held_in list.old) }
+        ensures ending { ending result ≡ outcome (result_ok opening.entry.script) (state player.old) (held_in list.old) }
         ensures lines { left result ≡ line.First ∷ coming opening.entry (state player.old) (held_in list.old) }
     {
         let shown = list.told().len();
         Run {
-            script: opening.script,
+            script: opening.script.ok(),
             player,
             list,
             shown,
             count: opening.count,
-            done: opening.done,
+            done: opening.script.map(|_| ()),
             stage: Stage::First,
         }
     }

@@ -4,4 +4,4 @@ use Rattle.whole_runs.proofs.reports.add_lines.Given as goal
 
 -- each turn reports one line
 abbrev pub decreases-loop-line : goal.decreases-loop-line
-decreases-loop-line l = length (left l.run)
+decreases-loop-line l = length (left l.line-iterator)
