@@ -90,11 +90,13 @@ impl<'a> Catalogue<'a> {
         ensures { result ≡ number (stream pair.entry) (listed self.now) }
     {
         let media = self.stretch.media;
-        let number = self
-            .entries()
-            .iter()
-            .position(|entry| entry.pair(media) == pair)?;
-        Some(number as u8)
+        let entries = self.entries();
+        for (number, entry) in entries.iter().enumerate() {
+            if entry.pair(media) == pair {
+                return Some(number as u8);
+            }
+        }
+        None
     }
 
     // Why a pair cannot be listed, if so: a bad string, it is listed already, or it would be the 33rd.

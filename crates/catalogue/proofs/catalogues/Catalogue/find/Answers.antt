@@ -1,23 +1,14 @@
-use Rattle.std.proofs.Common.{◌≡◌, rules, map, sym, ap, ◌∙◌, tests}
-use Rattle.std.proofs.lemmas.Iterator.{YieldsList-from_slice}
-use Rattle.std.proofs.lemmas.Iterator.Adapters.{position_from-zero}
-use Rattle.std.proofs.lemmas.Iterator.Search.{position_from_yields_List}
-use Rattle.catalogue.specs.Catalogues.{listed, named, number}
-use Rattle.catalogue.specs.Pairs.{same, stream}
-use Rattle.catalogue.proofs.Entries.{numbered}
+use Rattle.std.proofs.Common.{true, false, map, sym, ap, ◌∙◌}
+use Rattle.catalogue.specs.Catalogues.{named, number}
+use Rattle.catalogue.specs.Pairs.{stream}
+use Rattle.catalogue.proofs.Entries.{looks}
 use Rattle.catalogue.proofs.catalogues.Catalogue.find.Goals as goal
-use Rattle.catalogue.proofs.catalogues.Catalogue.find.Goals.{After-position}
 
-place : (c : After-position) → c.position.result ≡ number (stream c.args.pair) (listed c.args.self.now)
-place c =
-    let m = c.args.self.now.stretch.media.now in
-    let s = stream c.args.pair in
-    position_from_yields_List (λ e. same (named m e) s) _ _ c.position.result c.position.ensures.ran (YieldsList-from_slice _ c.iter.ensures.rest) (λ x b q k. search (rules, tests)) ∙
-    position_from-zero (λ e. same (named m e) s) c.entries.result.now ∙ numbered m s 0 c.entries.result.now ∙
-    ap (λ es. number s (map (named m) es)) c.entries.ensures.value
+pub returns-then-eq : goal.returns-then-eq
+returns-then-eq c =
+    sym (looks c.args.self.now.stretch.media.now c.entries-entries.result.now _ _ _ _ true c.loop-number-test.true c.pair.ensures c.if-eq.ensures) ∙ c.loop-number.invariant ∙
+    ap (λ es. number (stream c.args.pair) (map (named c.args.self.now.stretch.media.now) es)) c.entries-entries.ensures.value
 
-pub returns-in_err-number : goal.returns-in_err-number
-returns-in_err-number c = c.from_residual.ensures ∙ sym c.in_err-number.was ∙ place (goal.at.returns-in_err-number c).After-position
-
-pub returns : goal.returns
-returns c = sym c.in_ok-number.was ∙ place (goal.at.returns c).After-position
+pub loop-number-preserved : goal.loop-number-preserved
+loop-number-preserved c =
+    sym (looks c.args.self.now.stretch.media.now c.entries-entries.result.now _ _ _ _ false c.loop-number-test.true c.pair.ensures c.if-eq.ensures) ∙ c.loop-number.invariant
