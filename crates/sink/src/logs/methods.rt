@@ -16,6 +16,7 @@ use event::{Dispatch, Refusal, Sink};
 
 impl<'a> ByteLog<'a> {
     // A log that was told nothing: each 40 bytes are a free place.
+    #[tactic(auto, unfolding(crate::specs::Reading::read_up_to))]
     pub fn new(bytes: &'a mut [u8]) -> ByteLog<'a>
         ensures held { held_in_log result ≡ record { told = []; free = length bytes.old / 40 } }
         ensures bytes { result.page.bytes.now ≡ bytes.old }
