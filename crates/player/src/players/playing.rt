@@ -95,7 +95,7 @@ impl Player<'_> {
             return Err(Refusal::BehindPlayhead);
         }
         let playhead = self.reach(target, sink.free_places());
-        let due = |event: &Kept| { after < event.span.start && event.span.start <= playhead };
+        let due = |event: &Kept| after < event.span.start && event.span.start <= playhead;
         let told = self.tell_kept(due, |event| event.span.start, sink);
         self.head.playhead = playhead;
         Ok(Played { told, playhead })
