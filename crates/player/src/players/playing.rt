@@ -6,7 +6,7 @@ ghost use Rattle.player.specs.Rows.{Behind, items};
 ghost use Rattle.calls.specs.Seeks.{seeks};
 ghost use Rattle.player.specs.Players.{Lent, state};
 ghost use Rattle.calls.specs.State.{ids};
-ghost use Rattle.player.specs.Tests.{Pick, Picks};
+ghost use Rattle.player.specs.Closures.{Pick, Picks};
 
 use super::Player;
 use super::drawing::tell_free;
@@ -60,7 +60,7 @@ impl Player<'_> {
     {
         let used = self.used.len;
         let told = tell_picked(self.kept.items(), &mut self.used, &picks, &position, sink);
-        self.kept.remove(&picks);
+        self.kept.remove(picks);
         self.head.kept_ids -= self.used.len - used;
         told
     }
