@@ -24,8 +24,7 @@ use Rattle.tables.proofs.InOrder.{length_placed, none_placed}
 use Rattle.calls.proofs.Singles.{one_kept, one_used, single_moved}
 use Rattle.tables.proofs.Sorting.{earlier_further, earlier_opposite}
 use Rattle.tables.proofs.Filtered.{count_placed, none_filtered}
-use Rattle.calls.proofs.Marking.{ids_apart}
-use Rattle.player.proofs.Telling.{length_marked_all, length_marked_is}
+use Rattle.calls.proofs.Marking.{ids_apart, length_marked, length_marked_all}
 
 pub items_length : {X : Type 0} {o : _} (r : Rows X o) → length (items r) ≡ r.len
 items_length r = length-take-le r.len r.slots.now r.within
@@ -81,7 +80,7 @@ module _ (p : Player) (k : Kept) (id-place : no_id_place k (state p) ≡ false) 
   pub use_sound : (us : List UsedId) (n : ℕ) → us ≡ marked k (items p.used) → n ≡ length p.used.slots.now → known k (state p) ≡ false → Sound p.head (items p.kept) us n
   use_sound us n marked-is places new =
       let room = use_room in (
-        (p.sound.0.0, omega (arith, ap length marked-is, length_marked_is k (items p.used))),
+        (p.sound.0.0, omega (arith, ap length marked-is, length_marked k (items p.used))),
         λ s i. omega (arith, one_used (state p) k new p.sound.1 s i, ap (λ l. length (filter (used_as s i) l)) marked-is),
         p.sound.2,
       )

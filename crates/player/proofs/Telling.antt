@@ -1,36 +1,20 @@
 -- Telling kept events one after the other.
-use Rattle.std.proofs.Common.{◌≡◌, ℕ, ◌+◌, ◌-◌, ◌<◌, ◌≤◌, Bool, true, false, cond, List, [], ◌∷◌, ◌++◌, map, length, get_or, take, drop, filter, is_some, Some, None, Option, inl, inr, sym, refl, ap, ◌∙◌, arith}
+use Rattle.std.proofs.Common.{◌≡◌, ℕ, ◌+◌, ◌-◌, ◌<◌, ◌≤◌, Bool, true, false, cond, List, [], ◌∷◌, ◌++◌, map, length, get_or, take, drop, filter, sym, refl, ap, ◌∙◌, arith}
 use Rattle.std.proofs.lemmas.List.Elements.{filter_more}
 use Rattle.std.proofs.lemmas.List.{append-nil, length-map, length-take-le, length_push, map_push, take-append-drop, take_all}
 use Rattle.std.proofs.lemmas.Slice.{drop-append-drop}
-use Rattle.std.proofs.lemmas.Bool.{cases_Bool}
 use Rattle.event.specs.declared.dispatches.Dispatch.{Dispatch}
 use Rattle.event.specs.Fronts.{front}
 use Rattle.event.specs.Sinks.{Held, more}
 use Rattle.tables.specs.declared.elements.Kept.{Kept}
 use Rattle.tables.specs.declared.elements.UsedId.{UsedId}
 use Rattle.player.specs.declared.rows.Rows.{Rows}
-use Rattle.calls.specs.Draws.{marked, marked_as}
-use Rattle.tables.specs.Elements.{has_id, id_before, name_of}
+use Rattle.calls.specs.Draws.{marked}
+use Rattle.tables.specs.Elements.{has_id}
 use Rattle.calls.specs.Plays.{marked_all, told_to}
 use Rattle.player.specs.Rows.{Behind, items}
 use Rattle.calls.specs.State.{ids}
-use Rattle.calls.proofs.Marking.{fewer_ids, fewer_picked, ids_push, length_marked, marked_all_push, told_to_more, told_to_none}
-use Rattle.tables.proofs.InOrder.{length_placed}
-
-length_marked_as : (o : Option ℕ) (s : ℕ) (u : List UsedId) → length (marked_as o s u) ≡ length u + cond (is_some o) 1 0
-length_marked_as None s u = omega arith
-length_marked_as (Some i) s u = omega (arith, length_placed id_before (name_of s i) u)
-
-pub length_marked_is : (k : Kept) (u : List UsedId) → length (marked k u) ≡ length u + cond (has_id k) 1 0
-length_marked_is k u = length_marked_as k.id k.stream u
-
-pub length_marked_all : (ks : List Kept) (u : List UsedId) → length (marked_all ks u) ≡ length u + ids ks
-length_marked_all [] u = omega arith
-length_marked_all (k ∷ ks) u =
-    let ih = length_marked_all ks (marked k u) in
-    let one = length_marked_is k u in
-    elim (cases_Bool (has_id k)) [ inl t ↦ rw t (let e : length (marked k u) ≡ length u + 1 = rw t at one in omega (arith, ih, e)) | inr f ↦ rw f (let e : length (marked k u) ≡ length u + 0 = rw f at one in omega (arith, ih, e)) ]
+use Rattle.calls.proofs.Marking.{fewer_ids, fewer_picked, ids_push, length_marked, length_marked_all, marked_all_push, told_to_more, told_to_none}
 
 -- nothing written
 pub behind_same : {X : Type 0} {o : _} (r : Rows X o) → Behind r r

@@ -1,5 +1,5 @@
+pub mod Closures
 pub mod Players
 pub mod Rows
 pub mod Sound
-pub mod Tests
 pub mod Values

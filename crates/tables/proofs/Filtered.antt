@@ -1,6 +1,5 @@
 -- Lists, and what a test picks of them.
-use Rattle.std.proofs.Common.{◌≡◌, ℕ, zero, suc, ◌+◌, ◌<◌, ◌≤◌, Bool, true, cond, not, List, [], ◌∷◌, length, get_or, take, filter, sym, refl, ap, ◌∙◌, inl, inr, arith}
-use Rattle.std.proofs.lemmas.List.Filters.{length-filter_more}
+use Rattle.std.proofs.Common.{◌≡◌, ℕ, zero, suc, ◌+◌, ◌≤◌, Bool, true, cond, not, List, [], ◌∷◌, length, take, filter, refl, inl, inr, arith}
 use Rattle.std.proofs.lemmas.Bool.{and_from, and_parts, cases_Bool}
 use Rattle.tables.specs.Tables.{none, placed, sorted}
 
@@ -37,10 +36,6 @@ sorted_take before (x ∷ xs) (suc k) zero b h = absurd (omega arith)
 sorted_take before (x ∷ xs) (suc k) (suc n) b h =
     let parts = and_parts (none (λ y. before y x) (take n xs)) (sorted before (take n xs)) h in
     and_from (none (λ y. before y x) (take k xs)) (sorted before (take k xs)) (none_take (λ y. before y x) xs k n (omega arith) parts.0) (sorted_take before xs k n (omega arith) parts.1)
-
--- counting
-pub counted_more : {X : Type 0} (p : X → Bool) (xs : List X) (i : ℕ) (x : X) (b : Bool) → i < length xs → x ≡ get_or xs i x → p x ≡ b → length (filter p (take (i + 1) xs)) ≡ length (filter p (take i xs)) + cond b 1 0
-counted_more p xs i x b l read e = length-filter_more p xs i x l ∙ ap (λ c. length (filter p (take i xs)) + cond c 1 0) (ap p (sym read) ∙ e)
 
 -- one more in a table is one more of those that pass, where it passes
 pub count_placed : {X : Type 0} (before : X → X → Bool) (p : X → Bool) (x : X) (ys : List X) → length (filter p (placed before x ys)) ≡ length (filter p ys) + cond (p x) 1 0

@@ -21,9 +21,6 @@ sorted_get_or before (x ∷ xs) (suc i) (suc j) d h a b =
 module _ {X : Type 0} (before : X → X → Bool)
     (opposite : (x y : X) → before x y ≡ true → before y x ≡ false)
     (further : (x y z : X) → before x y ≡ true → before z y ≡ false → before x z ≡ true) where
-  pub irreflexive : (x : X) → before x x ≡ false
-  irreflexive x = elim (cases_Bool (before x x)) [ inl t ↦ opposite x x t | inr f ↦ f ]
-
   -- what x is not before stands in front
   pub sorted_leads : (x : X) (ys : List X) → sorted before ys ≡ true → leading (λ y. not (before x y)) ys ≡ true
   sorted_leads x [] h = refl

@@ -1,7 +1,6 @@
 -- Where a test stops passing.
-use Rattle.std.proofs.Common.{◌≡◌, ℕ, zero, suc, ◌+◌, ◌-◌, ◌<◌, ◌≤◌, Bool, true, false, not, List, [], ◌∷◌, ◌++◌, length, get_or, take, sym, refl, ap, ◌∙◌, inl, inr, arith}
+use Rattle.std.proofs.Common.{◌≡◌, ℕ, zero, suc, ◌-◌, ◌<◌, ◌≤◌, Bool, true, false, not, List, [], ◌∷◌, length, get_or, sym, refl, inl, inr, arith}
 use Rattle.std.proofs.lemmas.Bool.{cond_both, and_parts, not-true, both_ways, cases_Bool, cases_lt}
-use Rattle.std.proofs.lemmas.List.{get_or-take, length-take-le, length-take, take_more}
 use denote.Ref.{Bor}
 use Rattle.std.specs.Fn.{Called, ComputesKey, Mut}
 use Rattle.std.proofs.lemmas.List.Sorted.{IsPartitionPoint-from_clause}
@@ -33,23 +32,6 @@ prefix_passes p (x ∷ xs) (suc i) d h l e =
       | inr f ↦ absurd (both_ways (p (get_or xs i d)) (none_get_or p xs i d (rw f at h) (omega arith)) e)
     ]
 
--- the first n of xs, with x read at i
-module _ {X : Type 0} (p : X → Bool) (xs : List X) (n i : ℕ) (x : X) (within : n ≤ length xs) (below : i < n) (read : x ≡ get_or xs i x) where
-  taken : x ≡ get_or (take n xs) i x
-  taken = read ∙ sym (get_or-take n xs i x below)
-
-  short : length (take n xs) ≡ n
-  short = length-take-le n xs within
-
-  pub fails_at : p x ≡ false → prefix p (take n xs) ≤ i
-  fails_at e = prefix_fails p (take n xs) i x (rw short below) (ap p (sym taken) ∙ e)
-
-  pub passes_at : leading p (take n xs) ≡ true → p x ≡ true → i < prefix p (take n xs)
-  passes_at h e = prefix_passes p (take n xs) i x h (rw short below) (ap p (sym taken) ∙ e)
-
-pub prefix_take : {X : Type 0} (p : X → Bool) (xs : List X) (n : ℕ) → prefix p (take n xs) ≤ n
-prefix_take p xs n = let h = prefix_within p (take n xs) in omega (arith, h, length-take n xs)
-
 pub prefix_below : {X : Type 0} (p : X → Bool) (xs : List X) (i : ℕ) (d : X) → i < prefix p xs → p (get_or xs i d) ≡ true
 prefix_below p [] i d h = absurd (omega arith)
 prefix_below p (x ∷ xs) zero d h = elim (cases_Bool (p x)) [ inl t ↦ t | inr f ↦ let k : 0 < 0 = rw f at h in absurd (omega arith) ]
@@ -58,10 +40,6 @@ prefix_below p (x ∷ xs) (suc i) d h =
       | inl t ↦ let k : suc i < suc (prefix p xs) = rw t at h in prefix_below p xs i d (omega arith)
       | inr f ↦ let k : suc i < 0 = rw f at h in absurd (omega arith)
     ]
-
-pub prefix_past : {X : Type 0} (p : X → Bool) (xs : List X) (i : ℕ) (d : X) → leading p xs ≡ true → prefix p xs ≤ i → i < length xs → p (get_or xs i d) ≡ false
-prefix_past p xs i d h b l =
-    elim (cases_Bool (p (get_or xs i d))) [ inl t ↦ let k = prefix_passes p xs i d h l t in absurd (omega arith) | inr f ↦ f ]
 
 pub none_from_get_or : {X : Type 0} (p : X → Bool) (xs : List X) (d : X) → ((i : ℕ) → i < length xs → p (get_or xs i d) ≡ false) → none p xs ≡ true
 none_from_get_or p [] d h = refl
@@ -89,22 +67,6 @@ none_weaker p q [] f h = refl
 none_weaker p q (x ∷ xs) f h =
     let parts = and_parts (not (p x)) (none p xs) h in
     rw (f x (not-true (p x) parts.0)) (none_weaker p q xs f parts.1)
-
-pub none_push : {X : Type 0} (p : X → Bool) (xs : List X) (x : X) → none p xs ≡ true → p x ≡ false → none p (xs ++ (x ∷ [])) ≡ true
-none_push p [] x h e = rw e
-none_push p (y ∷ xs) x h e =
-    let parts = and_parts (not (p y)) (none p xs) h in
-    rw (not-true (p y) parts.0) (none_push p xs x parts.1 e)
-
--- one more element that fails
-pub none_more : {X : Type 0} (p : X → Bool) (xs : List X) (i : ℕ) (x : X) → i < length xs → x ≡ get_or xs i x → none p (take i xs) ≡ true → p x ≡ false → none p (take (i + 1) xs) ≡ true
-none_more p xs i x l read h e =
-    let more : take (i + 1) xs ≡ take i xs ++ (x ∷ []) = take_more xs i x l ∙ ap (λ y. take i xs ++ (y ∷ [])) (sym read) in
-    rw more (none_push p (take i xs) x h e)
-
-pub any_taken : {X : Type 0} (p : X → Bool) (xs : List X) (n i : ℕ) (x : X) → n ≤ length xs → i < n → x ≡ get_or xs i x → p x ≡ true → any p (take n xs) ≡ true
-any_taken p xs n i x w l read e =
-    any_at p (take n xs) i x (rw (length-take-le n xs w) l) (ap p (get_or-take n xs i x l ∙ sym read) ∙ e)
 
 -- what passes p stands in front, as a search by halving asks it
 leading_partitioned : {X : Type 0} (p : X → Bool) (xs : List X) → leading p xs ≡ true → IsPartitionedBy p xs

@@ -40,7 +40,7 @@ impl Player<'_> {
         let Some(name) = event.name() else {
             return false;
         };
-        self.used.holds(name) || self.kept.names(name)
+        self.used.holds(name) || self.kept.has_named(name)
     }
 
     // Whether the event has an id and no place is left for it.

@@ -5,7 +5,7 @@ ghost use Rattle.tables.specs.declared.elements.Kept.{Kept as Item};
 ghost use Rattle.calls.specs.Draws.{with_kept};
 ghost use Rattle.calls.specs.Evicts.{evicts};
 ghost use Rattle.player.specs.Players.{Lent, state};
-ghost use Rattle.player.specs.Tests.{Computes};
+ghost use Rattle.player.specs.Closures.{Computes};
 ghost use Rattle.tables.specs.Tables.{without};
 
 use super::Player;
@@ -22,7 +22,7 @@ impl Player<'_> {
         ensures lent { Lent self.old self.new }
     {
         let before = self.kept.len;
-        self.kept.remove(&test);
+        self.kept.remove(test);
         self.head.kept_ids = self.kept.count_ids();
         before - self.kept.len
     }

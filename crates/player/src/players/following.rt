@@ -7,7 +7,6 @@ ghost use Rattle.player.specs.Players.{Lent, state};
 
 use super::Player;
 use event::{Mode, Refusal};
-use tables::UsedId;
 
 impl Player<'_> {
     // The mode of a stream; off outside the catalogue.
@@ -53,7 +52,7 @@ impl Player<'_> {
             return Err(Refusal::NotFollowed);
         }
         let forgotten = self.forget(|event| event.stream == stream);
-        self.used.remove(&|name: &UsedId| name.stream == stream);
+        self.used.remove(|name| name.stream == stream);
         self.head.modes[stream as usize] = Mode::Off;
         Ok(forgotten)
     }

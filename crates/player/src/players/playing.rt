@@ -6,7 +6,7 @@ ghost use Rattle.player.specs.Rows.{Behind, items};
 ghost use Rattle.calls.specs.Seeks.{seeks};
 ghost use Rattle.player.specs.Players.{Lent, state};
 ghost use Rattle.calls.specs.State.{ids};
-ghost use Rattle.player.specs.Tests.{Pick, Picks};
+ghost use Rattle.player.specs.Closures.{Pick, Picks};
 
 use super::Player;
 use super::drawing::tell_free;
@@ -60,7 +60,7 @@ impl Player<'_> {
     {
         let used = self.used.len;
         let told = tell_picked(self.kept.items(), &mut self.used, &picks, &position, sink);
-        self.kept.remove(&picks);
+        self.kept.remove(picks);
         self.head.kept_ids -= self.used.len - used;
         told
     }
@@ -95,7 +95,7 @@ impl Player<'_> {
             return Err(Refusal::BehindPlayhead);
         }
         let playhead = self.reach(target, sink.free_places());
-        let due = |event: &Kept| { after < event.span.start && event.span.start <= playhead };
+        let due = |event: &Kept| after < event.span.start && event.span.start <= playhead;
         let told = self.tell_kept(due, |event| event.span.start, sink);
         self.head.playhead = playhead;
         Ok(Played { told, playhead })

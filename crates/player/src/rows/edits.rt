@@ -4,7 +4,7 @@ ghost use Rattle.calls.specs.Draws.{marked};
 ghost use Rattle.tables.specs.Elements.{has_id};
 ghost use Rattle.tables.specs.Tables.{placed, without};
 ghost use Rattle.player.specs.Rows.{Behind, items};
-ghost use Rattle.player.specs.Tests.{Computes};
+ghost use Rattle.player.specs.Closures.{Computes};
 
 use super::Rows;
 use tables::orders::Ordered;
@@ -25,10 +25,10 @@ impl<T: Ordered> Rows<'_, T> {
     }
 
     // Removes what passes a test; the rest moves to the front, in its order.
-    pub(crate) fn remove<F: Fn(&T) -> bool>(&mut self, test: &F)
-        requires callable { F.IsAlwaysCallable test.now }
-        requires computes { (p : T → Bool) × Computes F.Fn p test.now }
-        ensures items { (p : T → Bool) → Computes F.Fn p test.now → items self.new ≡ without p (items self.old) }
+    pub(crate) fn remove<F: Fn(&T) -> bool>(&mut self, test: F)
+        requires callable { F.IsAlwaysCallable test }
+        requires computes { (p : T → Bool) × Computes F.Fn p test }
+        ensures items { (p : T → Bool) → Computes F.Fn p test → items self.new ≡ without p (items self.old) }
         ensures behind { Behind self.old self.new }
     {
         let len = self.len;

@@ -30,7 +30,7 @@ impl Rows<'_, UsedId> {
 
 impl Rows<'_, Kept> {
     // Whether an event of this name stands in it.
-    pub(crate) fn names(&self, name: UsedId) -> bool
+    pub(crate) fn has_named(&self, name: UsedId) -> bool
         ensures { result ≡ any (named name) (items self.now) }
     {
         self.items().iter().any(|event| event.is_named(name))

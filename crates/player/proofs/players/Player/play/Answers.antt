@@ -4,7 +4,7 @@ use Rattle.calls.specs.Plays.{due, reach}
 use Rattle.tables.specs.Picks.{start_of, starts_in}
 use Rattle.player.specs.Rows.{items}
 use Rattle.player.specs.Players.{state}
-use Rattle.player.specs.Tests.{Pick}
+use Rattle.player.specs.Closures.{Pick}
 use Rattle.calls.proofs.Playing.{played}
 use Rattle.calls.proofs.Reaching.{due_fits}
 use Rattle.calls.proofs.Outcomes.{furthest_reach, reach_within, still_over}

@@ -3,7 +3,7 @@ use Rattle.event.proofs.Clock.{made_some}
 use Rattle.tables.specs.Elements.{active_at}
 use Rattle.tables.specs.Picks.{at_time}
 use Rattle.player.specs.Players.{state}
-use Rattle.player.specs.Tests.{Pick}
+use Rattle.player.specs.Closures.{Pick}
 use Rattle.calls.proofs.Leaving.{seeks_full, sought}
 use Rattle.player.proofs.Soundness.{moved_sound}
 use Rattle.player.proofs.players.Player.seek.Goals as goal

@@ -1,7 +1,7 @@
 use Rattle.std.proofs.Common.{◌≤◌}
 use Rattle.calls.specs.Plays.{told_by}
 use Rattle.player.specs.Rows.{Behind}
-use Rattle.player.specs.Tests.{Picks}
+use Rattle.player.specs.Closures.{Picks}
 use Rattle.player.proofs.Telling.{Told}
 use Rattle.player.proofs.players.playing.tell_picked.Given as goal
 

@@ -1,7 +1,7 @@
 use Rattle.std.proofs.Common.{◌≡◌, ◌≤◌, drop, length}
 use Rattle.std.proofs.lemmas.List.Filters.{FiltersInPlace}
 use Rattle.tables.specs.Tables.{fails}
-use Rattle.player.specs.Tests.{Computes}
+use Rattle.player.specs.Closures.{Computes}
 use Rattle.player.proofs.rows.Rows.remove.Given as goal
 
 abbrev pub invariant-loop-i : goal.invariant-loop-i

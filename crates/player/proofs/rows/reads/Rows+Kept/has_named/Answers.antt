@@ -3,7 +3,7 @@ use Rattle.std.proofs.lemmas.Iterator.{YieldsList-from_slice, cases_from_any}
 use Rattle.tables.specs.Elements.{named}
 use Rattle.tables.specs.Tables.{any}
 use Rattle.tables.proofs.Prefixes.{any_decided}
-use Rattle.player.proofs.rows.reads.Rows+Kept.names.Goals as goal
+use Rattle.player.proofs.rows.reads.Rows+Kept.has_named.Goals as goal
 
 pub returns : goal.returns
 returns c =

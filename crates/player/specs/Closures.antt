@@ -1,4 +1,4 @@
--- Tests that a caller gives.
+-- What the closures of a caller compute.
 --   Computes g p f   each call of f answers what p gives
 --   Pick             which kept events a call takes, and where it tells each of them
 --   Picks g h t f a  f answers which the pick t takes, and a where it tells each
