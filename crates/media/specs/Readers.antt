@@ -1,9 +1,9 @@
 -- What comes from a reader, which keeps its next look ready.
---   fault at d       a reader's fault at a place
---   comes w          what the records of a walk give, as a feed
---   ahead l c        what comes where l is ready and c is behind it
+--   fault at d         a reader's fault at a place
+--   comes w            what the records of a walk give, as a feed
+--   ahead l c          what comes where l is ready and c is behind it
 --   behind turns m w   what is left of a stretch m that is being walked over, by the turns of the rules
---   coming turns r   what comes from a reader
+--   coming turns r     what comes from a reader
 use Rattle.std.specs.Prelude.{ℕ, List, [], ◌∷◌, Some, None, Ok, Err}
 use Rattle.event.specs.Feeds.{Coming, Look}
 use Rattle.event.specs.declared.events.Event.{Event}

@@ -1,9 +1,9 @@
 -- Boxes end within the bytes of their segment, so that each turn goes forward.
---   emsg_fits v bs     a message is no longer than the bytes that it stands in
---   body_fits z bs     a body is no longer than its box
---   Usable z n         a box of such a size has bytes, all of them within the n bytes that are left
---   judged_usable      so it is where a reader finds nothing wrong with it
---   goes_forward s     each turn over a segment goes forward, within the bytes that are left
+--   emsg_fits v bs   a message is no longer than the bytes that it stands in
+--   body_fits z bs   a body is no longer than its box
+--   Usable z n       a box of such a size has bytes, all of them within the n bytes that are left
+--   judged_usable    so it is where a reader finds nothing wrong with it
+--   goes_forward s   each turn over a segment goes forward, within the bytes that are left
 use Rattle.std.proofs.Common.{◌≡◌, ℕ, ◌+◌, ◌-◌, ◌<◌, ◌≤◌, Bool, true, false, is_ok, cond, eqb, ltb, leb, List, length, drop, Some, None, Ok, Err, Option, Result, refl, ap, arith}
 use Rattle.std.specs.List.{position_from}
 use Rattle.std.proofs.lemmas.List.{length-drop}

@@ -1,10 +1,10 @@
 -- What the emsg boxes of a segment give.
---   lasting s d           a duration of d ticks, where a second has s: unknown at 0xFFFFFFFF, and 10 where it is past the latest time
---   spanned o t           start and duration, where neither is wrong
---   span_in s t e       start and duration, where a second has s ticks: 10 where the box's time or a known duration is past the latest time, then as for its start
---   span_of t e         the same in the box's own timescale; 6 where that is none
---   evented ts t m e s    the event of that start and duration
---   event_of ts t m e     the event of a box with a message m; its stream is numbered in the list ts
+--   lasting s d          a duration of d ticks, where a second has s: unknown at 0xFFFFFFFF, and 10 where it is past the latest time
+--   spanned o t          start and duration, where neither is wrong
+--   span_in s t e        start and duration, where a second has s ticks: 10 where the box's time or a known duration is past the latest time, then as for its start
+--   span_of t e          the same in the box's own timescale; 6 where that is none
+--   evented ts t m e s   the event of that start and duration
+--   event_of ts t m e    the event of a box with a message m; its stream is numbered in the list ts
 use Rattle.std.specs.Prelude.{ℕ, cond, List, Some, None, Ok, Err, Option, Result, ◌==◌, nat_le}
 use Rattle.event.specs.Times.{latest, time}
 use Rattle.event.specs.declared.events.Event.{Event}

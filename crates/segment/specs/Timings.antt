@@ -1,10 +1,10 @@
 -- How the times of a segment count.
---   within n           the time of n milliseconds, where it is not past the latest time
---   timing t           arrival, which is the earliest time less the offset, and inband offset, each in its timescale; 6 where one of these is none, 9 where the earliest time is below the offset,
---                      10 where the arrival is past the latest time
---   from_inband o n    n milliseconds less the inband offset o: 9 where that is below 0
---   start_of t v n     the start of an event whose time is n milliseconds: a version 0 counts on from the arrival, and 10 where that is past the latest time;
---                      a version 1 counts from the inband offset, and 9 where it is below it
+--   within n          the time of n milliseconds, where it is not past the latest time
+--   timing t          arrival, which is the earliest time less the offset, and inband offset, each in its timescale; 6 where one of these is none, 9 where the earliest time is below the offset,
+--                     10 where the arrival is past the latest time
+--   from_inband o n   n milliseconds less the inband offset o: 9 where that is below 0
+--   start_of t v n    the start of an event whose time is n milliseconds: a version 0 counts on from the arrival, and 10 where that is past the latest time;
+--                     a version 1 counts from the inband offset, and 9 where it is below it
 use Rattle.std.specs.Prelude.{ℕ, ◌+◌, ◌-◌, cond, ◌&&◌, Some, None, Ok, Err, Option, Result, nat_le, nat_lt}
 use Rattle.event.specs.Numbers.{Answer}
 use Rattle.event.specs.Numbers.Answer.{did, refused}

@@ -1,6 +1,6 @@
 -- The messages of a sheet's events stand within their records.
---   Placed m v r       an event of the fields v, where r is one, has its message at m, with their size
---   stands_within s    the message of each event that a turn over a sheet gives stands within its record
+--   Placed m v r      an event of the fields v, where r is one, has its message at m, with their size
+--   stands_within s   the message of each event that a turn over a sheet gives stands within its record
 use Rattle.std.proofs.Common.{◌≡◌, ℕ, ◌+◌, eqb, List, length, Some, None, Ok, Err, Option, Result, refl, arith}
 use Rattle.std.proofs.lemmas.Bool.{cond_both}
 use Rattle.event.specs.declared.events.Event.{Event}
