@@ -1,24 +1,19 @@
 -- What the opening of a run sheet leads to.
-use Rattle.std.proofs.Common.{◌≡◌, ℕ, ◌+◌, true, leb, List, [], ◌∷◌, length, drop, Ok, Err, sym, ap, ◌∙◌, subst, arith}
+use Rattle.std.proofs.Common.{◌≡◌, ℕ, ◌+◌, true, leb, List, [], length, drop, Ok, Err, sym, ap, ◌∙◌, subst, arith}
 use Rattle.std.specs.List.{between}
 use Rattle.std.proofs.lemmas.List.{take_rest}
 use Rattle.std.proofs.lemmas.Bool.{cond-true}
 use Rattle.event.specs.Numbers.{refusal}
 use Rattle.event.specs.Numbers.Answer.{did, refused}
-use Rattle.event.specs.Sinks.{Held}
 use Rattle.event.specs.declared.refusals.Refusal.{Refusal}
 use Rattle.media.specs.Stretches.{extent, left}
 use Rattle.catalogue.specs.CatalogueWalks.{all_listed}
 use Rattle.catalogue.specs.Catalogues.{listed}
-use Rattle.calls.specs.State.{State}
 use Rattle.runsheet.specs.Openings.{lengths, more, opening, opening_of, records_in}
 use Rattle.runsheet.specs.RunSheets.{commands, commands_in}
 use Rattle.runsheet.specs.declared.sheets.RunSheet.{RunSheet}
-use Rattle.run.specs.Lines.{behind, closing, listed_in, opened, reports, sheet_lines}
-use Rattle.run.specs.Openings as openings
-use Rattle.run.specs.Openings.{Opens, coming}
-use Rattle.lines.specs.declared.lines.Line.{Line}
-use Rattle.lines.specs.declared.lines.Line.TheVariants.{First}
+use Rattle.run.specs.Lines.{behind, closing, listed_in, opened, reports}
+use Rattle.run.specs.Openings.{Opens}
 use Rattle.run.specs.declared.openings.Opening.{Opening}
 use Rattle.run.specs.declared.openings.Script.{Script}
 use Rattle.run.proofs.Refusals.{none_listed, opened_refused}
@@ -79,8 +74,3 @@ module _ (m : List ℕ) (s t : RunSheet) (whole : Whole m s) (after : Behind s t
             sym (cond-true (leb (length m) 65536) (opened m (opening 0 m) (all_listed (opening 0 m)) w h) (reports [] 0 (refused 5) (closing w)) whole.short);
         streams = none_listed e ∙ ap listed_in all ∙ sym (cond-true (leb (length m) 65536) (listed_in (all_listed (opening 0 m))) 0 whole.short);
       })
-
--- a fresh player and a sink that was told nothing run the whole of it
-pub whole_run : (o : Opening) (w : State) (h : Held) (ls : List Line) → ls ≡ First ∷ coming o w h → openings.Whole o w h ls
-whole_run o w h ls e m places id_places opens player told =
-    e ∙ ap (λ x. First ∷ x) (opens.lines w h) ∙ (λ i. First ∷ sheet_lines m (player i) (record { told = told i; free = h.free }))

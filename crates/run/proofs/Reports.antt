@@ -1,9 +1,7 @@
 -- What a step of a run leaves to report.
-use Rattle.std.proofs.Common.{◌≡◌, ℕ, suc, ◌+◌, ◌^◌, ◌<◌, ◌≤◌, Bool, true, false, ◌&&◌, leb, ltb, List, [], ◌∷◌, ◌++◌, length, get_or, drop, is_some, is_ok, Some, None, Ok, Err, Option, Result, sym, refl, ap, ◌∙◌, arith}
-use denote.Bor.{Bor}
-use Rattle.std.specs.Option.{IfSome, MatchOption, option_copied}
-use Rattle.std.proofs.lemmas.List.{drop_all, drop_more}
-use Rattle.std.proofs.lemmas.Bool.{and_parts, leb-true, ltb-false, ltb-true}
+use Rattle.std.proofs.Common.{◌≡◌, ℕ, ◌≤◌, true, ◌&&◌, leb, List, [], ◌∷◌, ◌++◌, length, drop, is_some, is_ok, Some, None, Ok, Err, Option, Result, sym, refl, ap, ◌∙◌}
+use Rattle.std.proofs.lemmas.List.{drop_all}
+use Rattle.std.proofs.lemmas.Bool.{and_parts, leb-true}
 use Rattle.event.specs.Numbers.{answer, refusal}
 use Rattle.event.specs.Sinks.{Held}
 use Rattle.event.specs.declared.dispatches.Dispatch.{Dispatch}
@@ -15,9 +13,9 @@ use Rattle.runsheet.specs.RunSheets.{Commands, first_of, head_of, rest_of}
 use Rattle.runsheet.specs.declared.commands.Command.{Command}
 use Rattle.effects.specs.Effects.{After, performs}
 use Rattle.lines.specs.declared.lines.Line.{Line}
-use Rattle.run.specs.Lines.{behind, closing, cues, performed, played, reports, since}
-use Rattle.run.specs.Openings.{onward, outcome}
-use Rattle.run.specs.Runs.{NextTold, holding, idle, pending, playing}
+use Rattle.run.specs.Lines.{behind, closing, cues, performed, reports, since}
+use Rattle.run.specs.Openings.{onward}
+use Rattle.run.specs.Runs.{holding, idle, pending, playing}
 use Rattle.run.specs.declared.openings.Script.{Script}
 use Rattle.run.specs.declared.runs.Run.{Run}
 
@@ -52,37 +50,6 @@ module _ (media : List ℕ) (streams : List Stream) (n : ℕ) (w : State) (h : H
   pub behind_command : (v u : Commands) (c : Command) (a : After) → Some (Ok c) ≡ head_of v → u ≡ rest_of v → a ≡ performs c media streams w h → after a u ≡ behind v n media streams w h
   behind_command v u c a e r p = (λ i. after (p i) (r i)) ∙ taken c v.items v.stop e
 
-  none_played : (cs : List Command) (x : Option Refusal) → None ≡ first_of cs x → (w, h) ≡ played cs media streams w h
-  none_played [] x e = refl
-  none_played (c ∷ cs) x e = cc
-
-  pub played_end : (v : Commands) → None ≡ head_of v → (w, h) ≡ played v.items media streams w h
-  played_end v e = none_played v.items v.stop e
-
-  stop_played : (cs : List Command) (x : Option Refusal) (e : Refusal) → Some (Err e) ≡ first_of cs x → (w, h) ≡ played cs media streams w h
-  stop_played [] x e q = refl
-  stop_played (c ∷ cs) x e q = cc
-
-  pub played_stop : (v : Commands) (e : Refusal) → Some (Err e) ≡ head_of v → (w, h) ≡ played v.items media streams w h
-  played_stop v e q = stop_played v.items v.stop e q
-
-  one_played : (c : Command) (cs : List Command) (x : Option Refusal) → Some (Ok c) ≡ first_of cs x → played (drop 1 cs) media streams (performs c media streams w h).1 (performs c media streams w h).2 ≡ played cs media streams w h
-  one_played c [] None e = cc
-  one_played c [] (Some x) e = cc
-  one_played c (d ∷ cs) x e = let s : c ≡ d = cc in ap (λ y. played cs media streams (performs y media streams w h).1 (performs y media streams w h).2) s
-
-  pub played_command : (v u : Commands) (c : Command) (a : After) → Some (Ok c) ≡ head_of v → u ≡ rest_of v → a ≡ performs c media streams w h → played u.items media streams a.1 a.2 ≡ played v.items media streams w h
-  played_command v u c a e r p = (λ i. played (r i).items media streams (p i).1 (p i).2) ∙ one_played c v.items v.stop e
-
-fewer : (c : Command) (cs : List Command) (x : Option Refusal) → Some (Ok c) ≡ first_of cs x → length (drop 1 cs) < length cs
-fewer c [] None e = cc
-fewer c [] (Some x) e = cc
-fewer c (d ∷ cs) x e = omega arith
-
--- a command that was read is no more to come
-pub less_to_read : (v u : Commands) (c : Command) → Some (Ok c) ≡ head_of v → u ≡ rest_of v → suc (length u.items) < suc (length v.items)
-less_to_read v u c e r = omega (arith, fewer c v.items v.stop e, ap (λ y. length y.items) r)
-
 -- what is pending once all of it is reported
 pub reported : (ds : List Dispatch) (k n : ℕ) (d : Result (Unit {0}) Refusal) (ls : List Line) → is_ok d ≡ true → length ds ≤ k → reports (drop k ds) n (answer d) ls ≡ ls
 reported ds k n (Ok u) ls e h = ap (λ x. cues x ++ ls) (drop_all k ds h)
@@ -105,19 +72,3 @@ idle_pending r s e q =
     let i = idle_is r e in
     ap (λ o. onward o (playing r) (holding r)) (sym q) ∙
     sym (reported (holding r).told r.shown r.count r.done (onward r.script (playing r) (holding r)) i.fine i.all)
-
-pub nothing_to_perform : (o : Option Script) (w : State) (h : Held) (b : Bool) → (is_some o && (true && b)) ≡ false → b ≡ true → (w, h) ≡ outcome o w h
-nothing_to_perform None w h b e q = refl
-nothing_to_perform (Some s) w h b e q = let z : true ≡ false = sym q ∙ e in cc
-
--- where nothing is left to report and the run is not idle, nothing is left to read
-pub nothing_to_read : (o : Option Script) (w : State) (h : Held) (b : Bool) → (is_some o && (true && b)) ≡ false → b ≡ true → onward o w h ≡ closing w
-nothing_to_read None w h b e q = refl
-nothing_to_read (Some s) w h b e q = let z : true ≡ false = sym q ∙ e in cc
-
--- what is found at a place of what was told
-pub told_next : (ds : List Dispatch) (n : ℕ) (r : Option (Bor Dispatch)) → is_some r ≡ ltb n (length ds) → IfSome r (λ d. d.now ≡ get_or ds n d.now) → length ds < 2 ^ 64 → MatchOption (option_copied r) (length ds ≤ n) (NextTold ds n)
-told_next ds n None some item h = ltb-false n (length ds) (sym some)
-told_next ds n (Some d) some item h =
-    let within = ltb-true n (length ds) (sym some) in
-    record { within = omega arith; is = drop_more ds n d.now within ∙ ap (λ x. x ∷ drop (n + 1) ds) (sym item) }

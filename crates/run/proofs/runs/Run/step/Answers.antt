@@ -1,4 +1,4 @@
-use Rattle.std.proofs.Common.{◌<◌, [], drop, Some, sym, refl, ap, ◌∙◌, subst, arith}
+use Rattle.std.proofs.Common.{[], drop, Some, sym, ap, ◌∙◌, arith}
 use Rattle.std.proofs.lemmas.List.{drop_all}
 use Rattle.event.specs.Numbers.{answer, refusal}
 use Rattle.catalogue.specs.Catalogues.{listed}
@@ -6,46 +6,33 @@ use Rattle.sink.specs.Lists.{held_in}
 use Rattle.player.specs.Players.{state}
 use Rattle.runsheet.specs.RunSheets.{commands_in}
 use Rattle.run.specs.Lines.{behind, closing, reports}
-use Rattle.run.specs.Openings.{outcome}
-use Rattle.run.specs.Runs.{holding, playing, unread}
-use Rattle.run.proofs.Reports.{behind_command, behind_end, behind_stop, idle_is, idle_pending, less_to_read, played_command, played_end, played_stop, reported}
+use Rattle.run.specs.Runs.{holding, playing}
+use Rattle.run.proofs.Reports.{behind_command, behind_end, behind_stop, idle_is, idle_pending, reported}
 use Rattle.run.proofs.runs.Run.step.Goals as goal
 
-pub returns-in_default-next : goal.returns-in_default-next
-returns-in_default-next c =
+pub returns-in_default-next-clause-lines : goal.returns-in_default-next-clause-lines
+returns-in_default-next-clause-lines c =
     let r = c.args.self.now in
     let s = c.in-Some.script in
     let all = c.told-self.ensures in
-    record {
-      lines =
-          reported (holding r).told c.told-self.result r.count r.done (closing (playing r)) (idle_is r c.requires).fine (omega arith) ∙
-          behind_end s.media.now (listed s.catalogue) s.sheet.count (playing r) (holding r) (commands_in s.sheet) c.in_default-next.ensures.reads.head ∙
-          idle_pending r s c.requires c.in-Some.is;
-      ending = played_end s.media.now (listed s.catalogue) s.sheet.count (playing r) (holding r) (commands_in s.sheet) c.in_default-next.ensures.reads.head ∙ ap (λ o. outcome o (playing r) (holding r)) (sym c.in-Some.is);
-      stage = refl;
-      less = subst (λ o. 0 < unread o) (sym c.in-Some.is) (omega arith);
-    }
+    reported (holding r).told c.told-self.result r.count r.done (closing (playing r)) (idle_is r c.requires).fine (omega arith) ∙
+    behind_end s.media.now (listed s.catalogue) s.sheet.count (playing r) (holding r) (commands_in s.sheet) c.in_default-next.ensures.reads.head ∙
+    idle_pending r s c.requires c.in-Some.is
 
-pub returns-in-Err : goal.returns-in-Err
-returns-in-Err c =
+pub returns-in-Err-clause-lines : goal.returns-in-Err-clause-lines
+returns-in-Err-clause-lines c =
     let r = c.args.self.now in
     let s = c.in-Some.script in
     let e = c.in-Err.refusal in
     let all = c.told-self.ensures in
     let next = c.in-Some-next.ensures in
-    record {
-      lines =
-          ap (λ ds. reports ds c.records_read-self.result (refusal e) (closing (playing r))) (drop_all c.told-self.result (holding r).told (omega arith)) ∙
-          ap (λ n. reports [] n (refusal e) (closing (playing r))) (c.records_read-self.ensures ∙ next.adds) ∙
-          behind_stop s.media.now (listed s.catalogue) s.sheet.count (playing r) (holding r) (commands_in s.sheet) e (ap Some (sym c.in-Err.is) ∙ next.reads.head) ∙
-          idle_pending r s c.requires c.in-Some.is;
-      ending = played_stop s.media.now (listed s.catalogue) s.sheet.count (playing r) (holding r) (commands_in s.sheet) e (ap Some (sym c.in-Err.is) ∙ next.reads.head) ∙ ap (λ o. outcome o (playing r) (holding r)) (sym c.in-Some.is);
-      stage = refl;
-      less = subst (λ o. 0 < unread o) (sym c.in-Some.is) (omega arith);
-    }
+    ap (λ ds. reports ds c.records_read-self.result (refusal e) (closing (playing r))) (drop_all c.told-self.result (holding r).told (omega arith)) ∙
+    ap (λ n. reports [] n (refusal e) (closing (playing r))) (c.records_read-self.ensures ∙ next.adds) ∙
+    behind_stop s.media.now (listed s.catalogue) s.sheet.count (playing r) (holding r) (commands_in s.sheet) e (ap Some (sym c.in-Err.is) ∙ next.reads.head) ∙
+    idle_pending r s c.requires c.in-Some.is
 
-pub returns-in-Ok : goal.returns-in-Ok
-returns-in-Ok c =
+pub returns-in-Ok-clause-lines : goal.returns-in-Ok-clause-lines
+returns-in-Ok-clause-lines c =
     let r = c.args.self.now in
     let s = c.in-Some.script in
     let t = c.next.new.self in
@@ -55,12 +42,6 @@ returns-in-Ok c =
     let a = answer c.perform-self.result in
     let is = ap Some (sym c.in-Ok.is) ∙ next.reads.head in
     let counted = c.records_read-self.ensures ∙ next.adds in
-    record {
-      lines =
-          (λ i. reports (drop (c.told-self.ensures i) h.told) (counted i) a (behind (commands_in t) (next.adds i) s.media.now (listed s.catalogue) w h)) ∙
-          behind_command s.media.now (listed s.catalogue) s.sheet.count (playing r) (holding r) (commands_in s.sheet) (commands_in t) c.in-Ok.command (a, w, h) is next.reads.rest c.perform-self.ensures ∙
-          idle_pending r s c.requires c.in-Some.is;
-      ending = played_command s.media.now (listed s.catalogue) s.sheet.count (playing r) (holding r) (commands_in s.sheet) (commands_in t) c.in-Ok.command (a, w, h) is next.reads.rest c.perform-self.ensures ∙ ap (λ o. outcome o (playing r) (holding r)) (sym c.in-Some.is);
-      stage = refl;
-      less = subst (λ o. unread (Some (record { media = s.media; sheet = t; catalogue = s.catalogue })) < unread o) (sym c.in-Some.is) (less_to_read (commands_in s.sheet) (commands_in t) c.in-Ok.command is next.reads.rest);
-    }
+    (λ i. reports (drop (c.told-self.ensures i) h.told) (counted i) a (behind (commands_in t) (next.adds i) s.media.now (listed s.catalogue) w h)) ∙
+    behind_command s.media.now (listed s.catalogue) s.sheet.count (playing r) (holding r) (commands_in s.sheet) (commands_in t) c.in-Ok.command (a, w, h) is next.reads.rest c.perform-self.ensures ∙
+    idle_pending r s c.requires c.in-Some.is
