@@ -198,7 +198,7 @@ def proofs():
             if path.parent == folder and path.name != "Lib.antt":
                 for m in re.finditer(r"^ *(?:pub )?(?:abbrev )?(?:pub )?([^\s:(]+) : ", text, re.M):
                     word = m.group(1)
-                    own = len(re.findall(rf"^ *(?:pub |abbrev )*{re.escape(word)} (?:: |[^\n]*=(?:\s|$))", text, re.M))
+                    own = len(re.findall(rf"^ *(?:pub |abbrev )*{re.escape(word)} (?:: |[^\nλ=]*=(?:\s|$))", text, re.M))
                     if uses[word] <= own:
                         yield place(path, text, m.start()), f"{word}: nothing cites it"
 

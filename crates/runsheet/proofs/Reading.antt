@@ -1,16 +1,12 @@
 -- A command's record, and how long it is.
-use Rattle.std.proofs.Common.{◌≡◌, ℕ, ◌+◌, ◌-◌, ◌<◌, ◌≤◌, true, cond, ◌&&◌, eqb, leb, List, length, drop, Some, None, Option, refl, inl, inr, arith}
-use Rattle.std.specs.List.{between}
-use Rattle.std.proofs.lemmas.List.{length-drop, length-take}
+use Rattle.std.proofs.Common.{◌≡◌, ℕ, ◌+◌, ◌<◌, ◌≤◌, true, cond, ◌&&◌, eqb, leb, List, length, drop, Some, None, Option, refl, inl, inr, arith}
+use Rattle.std.proofs.lemmas.List.{length-drop}
 use Rattle.std.proofs.lemmas.Bool.{and_parts, cases_Bool, cond_both, eqb-true, le-leb, leb-true}
 use Rattle.event.specs.BigEndian.{num16, num32, num64}
 use Rattle.runsheet.specs.Commands.{Goes, Read, command, draw_sheet, marked, segment_length, segment_of, segment_times}
 use Rattle.runsheet.specs.RunSheets.{length_of}
 use Rattle.runsheet.specs.declared.commands.Command.{Command}
 use Rattle.media.specs.declared.times.Times.{Times}
-
-pub length_between : (a b : ℕ) (m : List ℕ) → length (between a b m) ≤ b - a
-length_between a b m = omega (arith, length-take (b - a) (drop a m))
 
 segment_fits : (bs : List ℕ) (n : ℕ) → Some n ≡ segment_length (drop 10 bs) → 44 + n ≤ length bs
 segment_fits bs n e =
