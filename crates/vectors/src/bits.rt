@@ -1,4 +1,5 @@
 // A decoder that reads a text bit by bit.
+use std::mem;
 
 // The number that a character stands for.
 fn six(c: u8) -> Option<u8> {
@@ -22,25 +23,25 @@ fn stripped(text: &[u8]) -> (&[u8], usize) {
 }
 
 // Bits that are read and not yet a whole byte, and the bytes before them.
-#[derive(Clone, Copy)]
+#[derive(Clone, Copy, Default)]
 struct Taken {
     byte: u8,
     bits: usize,
     bytes: usize,
 }
 
-// Takes the six bits of a character, the highest first, and writes each byte that is whole.
-fn take(mut taken: Taken, value: u8, out: &mut [u8]) -> Taken {
-    for mask in [32u8, 16, 8, 4, 2, 1] {
-        taken.byte = taken.byte << 1 | u8::from(value & mask != 0);
-        taken.bits = taken.bits.wrapping_add(1) % 8;
-        if taken.bits == 0 && taken.bytes < out.len() {
-            out[taken.bytes] = taken.byte;
-            taken.byte = 0;
-            taken.bytes += 1;
+impl Taken {
+    // Takes the six bits of a character, the highest first, and writes each byte that is whole.
+    fn take(&mut self, value: u8, out: &mut [u8]) {
+        for mask in [32u8, 16, 8, 4, 2, 1] {
+            self.byte = self.byte << 1 | u8::from(value & mask != 0);
+            self.bits = self.bits.wrapping_add(1) % 8;
+            if self.bits == 0 && self.bytes < out.len() {
+                out[self.bytes] = mem::take(&mut self.byte);
+                self.bytes += 1;
+            }
         }
     }
-    taken
 }
 
 // Writes the bytes of a text to the front of `out`, and answers how many there are; nothing where the text is not base64.
@@ -49,17 +50,9 @@ pub(crate) fn by_bits(text: &[u8], out: &mut [u8]) -> Option<usize> {
         return None;
     }
     let (body, unused) = stripped(text);
-    let mut taken = Taken {
-        byte: 0,
-        bits: 0,
-        bytes: 0,
-    };
+    let mut taken = Taken::default();
     for c in body {
-        taken = take(taken, six(*c)?, out);
+        taken.take(six(*c)?, out);
     }
-    if taken.byte == 0 && taken.bits == unused {
-        Some(taken.bytes)
-    } else {
-        None
-    }
+    (taken.byte == 0 && taken.bits == unused).then_some(taken.bytes)
 }

@@ -1,5 +1,5 @@
 // What readers give over short media buffers, beside the values that the formats call for.
-use event::{Event, Feed, Message, Refusal, Span, Time};
+use event::{Event, Fault, Feed, Message, Refusal, Span, Time};
 use reader::{Catalogue, SegmentReader, SheetReader, Stretch, Times, Timing};
 use std::process::Abort;
 use std::test::Fail;
@@ -12,38 +12,38 @@ mod sheets;
 // Stream 0 is `a` with no value, stream 1 is `urn` with value `v1`.
 const LISTED: &[u8] = b"SV\x01\0aSV\x03\x02urnv1";
 
-// What a feed gave: how many records, the first of them, and the number and the place of its fault, both 0 at a clean end.
+// What a feed gave: how many records, the first of them, and the fault that it stops at, none at a clean end.
 #[derive(Clone, Copy)]
 struct Reading {
     records: usize,
     first: Option<Event>,
-    number: u8,
-    place: u32,
+    fault: Option<Fault>,
+}
+
+impl Reading {
+    // The number and the place of the fault, both 0 at a clean end.
+    fn ending(self) -> (u8, u32) {
+        match self.fault {
+            Some(fault) => (fault.defect.number(), fault.place),
+            None => (0, 0),
+        }
+    }
 }
 
 // Reads a feed to its ending, where a step changes nothing.
-fn drained<F: Feed>(rt: &impl Abort, feed: &mut F) -> Result<Reading, Fail> {
+fn drained<F: Feed + Drop>(rt: &impl Abort, mut feed: F) -> Result<Reading, Fail> {
     let mut first = None;
     for records in 0..64 {
-        match feed.look() {
-            Ok(Some(event)) => {
-                if records == 0 {
-                    first = Some(event);
-                }
-                feed.step();
-            }
+        let seen = feed.look();
+        feed.step();
+        match seen {
+            Ok(Some(event)) => first = first.or(Some(event)),
             ending => {
-                feed.step();
                 assert!(rt; feed.look() == ending);
-                let (number, place) = match ending {
-                    Err(fault) => (fault.defect.number(), fault.place),
-                    Ok(_) => (0, 0),
-                };
                 return Ok(Reading {
                     records,
                     first,
-                    number,
-                    place,
+                    fault: ending.err(),
                 });
             }
         }
@@ -51,36 +51,18 @@ fn drained<F: Feed>(rt: &impl Abort, feed: &mut F) -> Result<Reading, Fail> {
     Err(Fail::new("the feed does not end"))
 }
 
-// Reads the sheet in a stretch, with the streams of a list.
-fn sheet_of<'a>(
-    rt: &impl Abort,
-    list: &'a [u8],
-    media: &'a [u8],
-    from: usize,
-    to: usize,
-) -> Result<Reading, Fail> {
-    let catalogue = Catalogue::read(Stretch::new(list, 0, list.len())?)?;
-    let mut feed = SheetReader::new(Stretch::new(media, from, to)?, &catalogue);
-    drained(rt, &mut feed)
+// The catalogue of the two streams.
+fn catalogue() -> Result<Catalogue<'static>, Refusal> {
+    Catalogue::read(Stretch::new(LISTED, 0, LISTED.len())?)
 }
 
 // Reads the sheet in a stretch.
 fn sheet(rt: &impl Abort, media: &[u8], from: usize, to: usize) -> Result<Reading, Fail> {
-    sheet_of(rt, LISTED, media, from, to)
-}
-
-// Reads the segment in a stretch, with the streams of a list.
-fn segment_of<'a>(
-    rt: &impl Abort,
-    list: &'a [u8],
-    media: &'a [u8],
-    from: usize,
-    to: usize,
-    timing: Timing,
-) -> Result<Reading, Fail> {
-    let catalogue = Catalogue::read(Stretch::new(list, 0, list.len())?)?;
-    let mut feed = SegmentReader::new(Stretch::new(media, from, to)?, timing, &catalogue);
-    drained(rt, &mut feed)
+    let catalogue = catalogue()?;
+    drained(
+        rt,
+        SheetReader::new(Stretch::new(media, from, to)?, &catalogue),
+    )
 }
 
 // Reads the segment in a stretch.
@@ -91,7 +73,11 @@ fn segment(
     to: usize,
     timing: Timing,
 ) -> Result<Reading, Fail> {
-    segment_of(rt, LISTED, media, from, to, timing)
+    let catalogue = catalogue()?;
+    drained(
+        rt,
+        SegmentReader::new(Stretch::new(media, from, to)?, timing, &catalogue),
+    )
 }
 
 // The timing of a segment with its earliest presentation time, offset and media timescale, and its inband offset and that one's timescale.
@@ -118,10 +104,7 @@ fn plain() -> Result<Timing, Fail> {
 
 // The time of so many milliseconds.
 fn time(ms: u64) -> Result<Time, Fail> {
-    match Time::new(ms) {
-        Some(time) => Ok(time),
-        None => Err(Fail::new("past the latest time")),
-    }
+    Time::new(ms).ok_or_else(|| Fail::new("past the latest time"))
 }
 
 // An event of these fields; those of its message are the place, the length, and whether it is base64.
@@ -133,17 +116,13 @@ fn event(
     arrival: u64,
     message: (u32, u32, bool),
 ) -> Result<Event, Fail> {
-    let duration = match duration {
-        None => None,
-        Some(ms) => Some(time(ms)?),
-    };
     let (place, length, base64) = message;
     Ok(Event {
         stream,
         id,
         span: Span {
             start: time(start)?,
-            duration,
+            duration: duration.map(time).transpose()?,
         },
         arrival: time(arrival)?,
         message: Message {
@@ -156,9 +135,8 @@ fn event(
 
 // The reading has so many records, and a fault of this number at this place.
 fn ends(rt: &impl Abort, reading: Reading, records: usize, number: u8, place: u32) {
-    assert!(rt; reading.records == records, "records");
-    assert!(rt; reading.number == number, "number");
-    assert!(rt; reading.place == place, "place");
+    assert_eq!(rt; reading.records, records);
+    assert_eq!(rt; reading.ending(), (number, place));
 }
 
 // The reading has one record, which is this, and a clean end.
@@ -176,13 +154,8 @@ fn sheet_ends(
     number: u8,
     place: u32,
 ) -> Result<(), Fail> {
-    ends(
-        rt,
-        sheet(rt, media, from, media.len())?,
-        records,
-        number,
-        place,
-    );
+    let reading = sheet(rt, media, from, media.len())?;
+    ends(rt, reading, records, number, place);
     Ok(())
 }
 
@@ -201,13 +174,8 @@ fn segment_ends(
     number: u8,
     place: u32,
 ) -> Result<(), Fail> {
-    ends(
-        rt,
-        segment(rt, media, from, media.len(), plain()?)?,
-        records,
-        number,
-        place,
-    );
+    let reading = segment(rt, media, from, media.len(), plain()?)?;
+    ends(rt, reading, records, number, place);
     Ok(())
 }
 
@@ -215,6 +183,11 @@ fn segment_ends(
 fn segment_gives(rt: &impl Abort, media: &[u8], event: Event) -> Result<(), Fail> {
     gives(rt, segment(rt, media, 0, media.len(), plain()?)?, event);
     Ok(())
+}
+
+// The number of a refusal, 0 where there is none.
+fn number_of<T: Drop>(answer: Result<T, Refusal>) -> u8 {
+    answer.err().map_or(0, |refusal| refusal.number())
 }
 
 // With this timing a segment of one box gives a record of this start, or a fault of this number.
@@ -226,17 +199,10 @@ fn counted(
     number: u8,
 ) -> Result<(), Fail> {
     let reading = segment(rt, media, 0, media.len(), timing)?;
-    assert!(rt; reading.number == number);
-    match reading.first {
-        Some(event) => {
-            assert!(rt; number == 0 && event.span.start.ms() == start);
-            Ok(())
-        },
-        None => {
-            assert!(rt; number != 0 && reading.place == 0);
-            Ok(())
-        },
-    }
+    let given = reading.first.map(|event| event.span.start.ms());
+    assert_eq!(rt; reading.ending(), (number, 0));
+    assert_eq!(rt; given, (number == 0).then_some(start));
+    Ok(())
 }
 
 // Making the stretch answers this number, 0 where it is made.
@@ -247,17 +213,12 @@ fn stretched(
     to: usize,
     number: u8,
 ) -> Result<(), Fail> {
-    match Stretch::new(media, from, to) {
-        Ok(stretch) => {
-            assert!(rt; number == 0 && from <= to && to <= media.len());
-            assert!(rt; stretch.bytes() == &media[from..to]);
-            Ok(())
-        }
-        Err(refusal) => {
-            assert!(rt; refusal.number() == number);
-            Ok(())
-        },
+    let made = Stretch::new(media, from, to);
+    assert_eq!(rt; number_of(made), number);
+    if let Ok(stretch) = made {
+        assert_eq!(rt; Some(stretch.bytes()), media.get(from..to));
     }
+    Ok(())
 }
 
 // Making the timing answers this number, 0 where it is made.
@@ -270,28 +231,18 @@ fn timed(
     inband_ticks: u32,
     number: u8,
 ) -> Result<(), Fail> {
-    match timing(earliest, offset, media_ticks, inband, inband_ticks) {
-        Ok(_) => {
-            assert!(rt; number == 0);
-            Ok(())
-        },
-        Err(refusal) => {
-            assert!(rt; refusal.number() == number);
-            Ok(())
-        },
-    }
+    let made = timing(earliest, offset, media_ticks, inband, inband_ticks);
+    assert_eq!(rt; number_of(made), number);
+    Ok(())
 }
 
 // The catalogue from a place on lists so many streams, or is refused with this number.
 fn listed(rt: &impl Abort, media: &[u8], from: usize, streams: u8, number: u8) -> Result<(), Fail> {
-    match Catalogue::read(Stretch::new(media, from, media.len())?) {
-        Ok(catalogue) => {
-            assert!(rt; number == 0 && catalogue.streams().count() == streams);
-            Ok(())
-        },
-        Err(refusal) => {
-            assert!(rt; refusal.number() == number);
-            Ok(())
-        },
-    }
+    let read = Catalogue::read(Stretch::new(media, from, media.len())?);
+    assert_eq!(rt; number_of(read), number);
+    assert_eq!(rt;
+        read.map_or(0, |catalogue| catalogue.streams().count()),
+        streams
+    );
+    Ok(())
 }

@@ -1,6 +1,6 @@
 // Stretches that end at every byte of what they hold, buffers at their greatest length, and catalogues that are full.
 use super::{LISTED, ends, listed, plain, segment, sheet};
-use reader::{Catalogue, Stretch};
+use reader::{Catalogue, Pair, Stretch};
 use std::test::Fail;
 
 const SHEET: &[u8] =
@@ -121,12 +121,10 @@ fn longest(rt: HostRuntime) -> Result<(), Fail> {
 
 // 33 records of schemes of one byte each, the last with this mark and this scheme.
 fn crowd(mark: u8, scheme: u8) -> [u8; 165] {
-    let mut media = [b'S'; 165];
-    for n in 0..33 {
-        media[5 * n + 1] = b'V';
-        media[5 * n + 2] = 1;
-        media[5 * n + 3] = 0;
-        media[5 * n + 4] = n as u8 + 65;
+    let mut media = [0; 165];
+    let (records, _) = media.as_chunks_mut::<5>();
+    for (record, scheme) in records.iter_mut().zip(65u8..98) {
+        *record = [b'S', b'V', 1, 0, scheme];
     }
     media[161] = mark;
     media[164] = scheme;
@@ -144,14 +142,19 @@ fn full(rt: HostRuntime) -> Result<(), Fail> {
     listed(&rt, &crowd(b'v', 97), 0, 0, 1)
 }
 
+// The pair of these strings.
+fn pair<'a>(scheme: &'a [u8], value: &'a [u8]) -> Pair<'a> {
+    Pair { scheme, value }
+}
+
 // A pair is found by equal bytes, and its number is that of its record.
 #[test]
 fn found(rt: HostRuntime) -> Result<(), Fail> {
     let catalogue = Catalogue::read(Stretch::new(LISTED, 0, LISTED.len())?)?;
-    assert_eq!(rt; catalogue.find(b"a", b""), Some(0));
-    assert_eq!(rt; catalogue.find(b"urn", b"v1"), Some(1));
-    assert_eq!(rt; catalogue.find(b"urnv", b"1"), None);
-    assert_eq!(rt; catalogue.find(b"URN", b"v1"), None);
-    assert_eq!(rt; catalogue.find(b"", b"a"), None);
+    assert_eq!(rt; catalogue.find(pair(b"a", b"")), Some(0));
+    assert_eq!(rt; catalogue.find(pair(b"urn", b"v1")), Some(1));
+    assert_eq!(rt; catalogue.find(pair(b"urnv", b"1")), None);
+    assert_eq!(rt; catalogue.find(pair(b"URN", b"v1")), None);
+    assert_eq!(rt; catalogue.find(pair(b"", b"a")), None);
     Ok(())
 }
