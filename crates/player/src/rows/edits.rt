@@ -32,14 +32,16 @@ impl<T: Ordered> Rows<'_, T> {
         ensures behind { Behind self.old self.new }
     {
         let len = self.len;
+        let mut left = 0;
         self.len = 0;
         for i in 0..len {
             let x = self.slots[i];
             if !test(&x) {
-                self.slots[self.len] = x;
-                self.len += 1;
+                self.slots[left] = x;
+                left += 1;
             }
         }
+        self.len = left;
     }
 }
 

@@ -65,7 +65,7 @@ impl Kept {
     pub fn is_named(&self, name: UsedId) -> bool
         ensures { result ≡ named name self.now }
     {
-        self.name() == Some(name)
+        self.id == Some(name.id) && self.stream == name.stream
     }
 }
 
