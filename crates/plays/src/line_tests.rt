@@ -1,5 +1,6 @@
 // The lines of a dispatch and of a refusal, beside those that the rules give.
-use event::{Defect, Dispatch, Fault, Layer, Message, Refusal, Span, Time, Trigger};
+use crate::steps::time;
+use event::{Defect, Dispatch, Fault, Layer, Message, Refusal, Span, Trigger};
 use lines::{CueLine, RefusedLine};
 use std::test::Fail;
 
@@ -17,11 +18,6 @@ fn dispatch(position: u64, trigger: Trigger, stream: u8, id: Option<u32>, span: 
             base64: true,
         },
     }
-}
-
-// A time of so many milliseconds, none of them past the latest one.
-fn time(ms: u64) -> Time {
-    Time::new(ms).unwrap_or(Time::ZERO)
 }
 
 // What a dispatch has not is a dash.

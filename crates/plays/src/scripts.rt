@@ -1,8 +1,8 @@
 // A list of calls, made on a fresh player one after the other.
-use crate::steps::{Call, Said, perform, unused};
+use crate::steps::{Call, Said, perform};
 use event::{Dispatch, StreamCount};
 use player::{Kept, Player, Tables, UsedId};
-use sink::RecordList;
+use sink::{NO_DISPATCH, RecordList};
 use std::process::Abort;
 use std::test::Fail;
 
@@ -21,39 +21,44 @@ pub(crate) const AMPLE: Places = Places {
     dispatches: 8,
 };
 
-// What a player and its list show: the playhead, how many events are kept, how many dispatches were told, and which.
-#[derive(Clone, Copy)]
+// What a player and its list show: the playhead, how many events are kept, and the dispatches that were told.
+#[derive(Clone, Copy, PartialEq, Eq)]
 struct Shown {
     playhead: u64,
     kept: usize,
-    count: usize,
-    told: [Dispatch; 8],
+    told: [Option<Dispatch>; 8],
 }
 
-// What the player and the list show now.
-fn showing(rt: &impl Abort, player: &Player, list: &RecordList) -> Shown {
-    let count = list.told().len();
-    let mut told = [unused(); 8];
-    assert!(rt; count <= 8);
-    told[0..count].copy_from_slice(list.told());
-    Shown {
-        playhead: player.playhead().ms(),
-        kept: player.kept_count(),
-        count,
-        told,
+// A player and the list that it tells.
+#[derive(Drop)]
+struct Stage<'a> {
+    player: Player<'a>,
+    list: RecordList<'a>,
+}
+
+impl<'a> Stage<'a> {
+    // What the player and the list show now.
+    fn shown(&self, rt: &impl Abort) -> Shown {
+        let mut told = [None; 8];
+        assert!(rt; self.list.told().len() <= 8);
+        for (slot, dispatch) in told.iter_mut().zip(self.list.told()) {
+            *slot = Some(*dispatch);
+        }
+        Shown {
+            playhead: self.player.playhead().ms(),
+            kept: self.player.kept_count(),
+            told,
+        }
     }
-}
 
-// Makes a call, compares what it says, and sees that a refusal changes nothing.
-fn step(rt: &impl Abort, player: &mut Player, call: Call, said: Said, list: &mut RecordList) {
-    let before = showing(rt, player, list);
-    let answer = perform(player, call, list);
-    assert_eq!(rt; answer, said);
-    if let Said::Refused(_) = answer {
-        let after = showing(rt, player, list);
-        assert!(rt; after.playhead == before.playhead);
-        assert!(rt; after.kept == before.kept && after.count == before.count);
-        assert!(rt; after.told == before.told);
+    // Makes a call, compares what it says, and sees that a refusal changes nothing.
+    fn step(&mut self, rt: &impl Abort, call: Call, said: Said) {
+        let before = self.shown(rt);
+        let answer = perform(&mut self.player, call, &mut self.list);
+        assert_eq!(rt; answer, said);
+        if let Said::Refused(_) = answer {
+            assert!(rt; self.shown(rt) == before);
+        }
     }
 }
 
@@ -66,14 +71,16 @@ pub(crate) fn script(
 ) -> Result<(), Fail> {
     let mut kept = [Kept::EMPTY; 8];
     let mut used = [UsedId::EMPTY; 8];
-    let mut slots = [unused(); 8];
+    let mut slots = [NO_DISPATCH; 8];
     assert!(rt; places.events <= 8 && places.ids <= 8 && places.dispatches <= 8);
     let tables = Tables::new(&mut kept[0..places.events], &mut used[0..places.ids])?;
-    let mut player = Player::new(tables, StreamCount::at_most(2));
-    let mut list = RecordList::new(&mut slots[0..places.dispatches]);
+    let mut stage = Stage {
+        player: Player::new(tables, StreamCount::at_most(2)),
+        list: RecordList::new(&mut slots[0..places.dispatches]),
+    };
     for (call, said) in steps {
-        step(rt, &mut player, *call, *said, &mut list);
+        stage.step(rt, *call, *said);
     }
-    assert!(rt; list.told() == expected);
+    assert!(rt; stage.list.told() == expected);
     Ok(())
 }

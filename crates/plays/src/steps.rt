@@ -38,7 +38,7 @@ const FAULT: Fault = Fault {
 };
 
 // A time of so many milliseconds.
-pub(crate) fn at(ms: u64) -> Time {
+pub(crate) fn time(ms: u64) -> Time {
     Time::new(ms).unwrap_or(Time::ZERO)
 }
 
@@ -48,11 +48,8 @@ pub(crate) fn event(id: Option<u32>, start: u64, duration: Option<u64>) -> Event
         stream: Some(0),
         id,
         span: Span {
-            start: at(start),
-            duration: match duration {
-                Some(ms) => Some(at(ms)),
-                None => None,
-            },
+            start: time(start),
+            duration: duration.map(time),
         },
         arrival: Time::ZERO,
         message: Message {
@@ -65,30 +62,21 @@ pub(crate) fn event(id: Option<u32>, start: u64, duration: Option<u64>) -> Event
 
 // The same event in another stream, or in none.
 pub(crate) fn in_stream(stream: Option<u8>, event: Event) -> Event {
-    Event {
-        stream,
-        id: event.id,
-        span: event.span,
-        arrival: event.arrival,
-        message: event.message,
-    }
+    Event { stream, ..event }
 }
 
 // The same event with another arrival.
 pub(crate) fn arrived(arrival: u64, event: Event) -> Event {
     Event {
-        stream: event.stream,
-        id: event.id,
-        span: event.span,
-        arrival: at(arrival),
-        message: event.message,
+        arrival: time(arrival),
+        ..event
     }
 }
 
 // The dispatch of an event at a position.
 pub(crate) fn told(position: u64, trigger: Trigger, event: Event) -> Dispatch {
     Dispatch {
-        position: at(position),
+        position: time(position),
         trigger,
         stream: event.stream.unwrap_or(255),
         id: event.id,
@@ -97,82 +85,59 @@ pub(crate) fn told(position: u64, trigger: Trigger, event: Event) -> Dispatch {
     }
 }
 
-// A dispatch that no list expects, for unused slots.
-pub(crate) fn unused() -> Dispatch {
-    told(0, Trigger::Receive, event(None, 0, None))
-}
-
 // Draws from a feed of one record, or of none and an ending.
 fn draw<S: Sink>(player: &mut Player, mut feed: One, sink: &mut S) -> Said {
     let record = feed.event;
     match player.draw(&mut feed, sink) {
-        Ok(drawn) => {
-            if feed.event.is_some() {
-                Said::Wrong
-            } else {
-                Said::Drew(drawn)
-            }
-        }
-        Err(refusal) => {
-            if feed.event == record {
-                refused(refusal)
-            } else {
-                Said::Wrong
-            }
-        }
+        Ok(drawn) if feed.event.is_none() => Said::Drew(drawn),
+        Err(refusal) if feed.event == record => refused(refusal),
+        _ => Said::Wrong,
     }
 }
 
 // A refusal by its number; a fault is the one that the feed was at.
 fn refused(refusal: Refusal) -> Said {
     match refusal {
-        Refusal::AtFault(
-            Fault {
-                defect: Defect::BoxFields,
-                place: 77,
-                layer: Layer::Reader,
-            },
-        ) => Said::Refused(26),
-        Refusal::AtFault(_) => Said::Wrong,
+        Refusal::AtFault(fault) if fault != FAULT => Said::Wrong,
         other => Said::Refused(other.number()),
-    }
-}
-
-// How many a call answers, or its refusal.
-fn counted(answer: Result<usize, Refusal>) -> Said {
-    match answer {
-        Ok(n) => Said::Count(n),
-        Err(refusal) => refused(refusal),
     }
 }
 
 // Makes a call.
 pub(crate) fn perform<S: Sink>(player: &mut Player, call: Call, sink: &mut S) -> Said {
     match call {
-        Call::Follow(stream, mode) => match player.follow(stream, mode) {
-            Ok(()) => Said::Done,
-            Err(refusal) => refused(refusal),
-        },
-        Call::Leave(stream) => counted(player.leave(stream)),
-        Call::Draw(event) => {
-            let feed = One {
+        Call::Follow(stream, mode) => player
+            .follow(stream, mode)
+            .map_or_else(refused, |()| Said::Done),
+        Call::Leave(stream) => player.leave(stream).map_or_else(refused, Said::Count),
+        Call::Draw(event) => draw(
+            player,
+            One {
                 event: Some(event),
                 fault: None,
-            };
-            draw(player, feed, sink)
-        }
-        Call::DrawEnd => draw(player, none(None), sink),
-        Call::DrawFault => draw(player, none(Some(FAULT)), sink),
-        Call::Play(to) => match player.play(to, sink) {
-            Ok(played) => Said::Reached(played.told, played.playhead.ms()),
-            Err(refusal) => refused(refusal),
-        },
-        Call::Seek(to) => counted(player.seek(to, sink)),
-        Call::Evict(from, to) => counted(player.evict(from, to)),
+            },
+            sink,
+        ),
+        Call::DrawEnd => draw(
+            player,
+            One {
+                event: None,
+                fault: None,
+            },
+            sink,
+        ),
+        Call::DrawFault => draw(
+            player,
+            One {
+                event: None,
+                fault: Some(FAULT),
+            },
+            sink,
+        ),
+        Call::Play(to) => player.play(to, sink).map_or_else(refused, |played| {
+            Said::Reached(played.told, played.playhead.ms())
+        }),
+        Call::Seek(to) => player.seek(to, sink).map_or_else(refused, Said::Count),
+        Call::Evict(from, to) => player.evict(from, to).map_or_else(refused, Said::Count),
     }
-}
-
-// A feed with no record.
-fn none(fault: Option<Fault>) -> One {
-    One { event: None, fault }
 }

@@ -1,13 +1,13 @@
 // The same calls on two players: one tells a record list and plays whole, the other tells a byte log and plays in stops.
-use crate::steps::{Call, Said, arrived, event, in_stream, perform, unused};
+use crate::steps::{Call, Said, arrived, event, in_stream, perform};
 use event::{Dispatch, Feed, Mode, Refusal, Sink, StreamCount};
 use layers::Period;
 use player::{Drawn, Kept, Player, Tables, UsedId};
 use reader::{Catalogue, SegmentReader, SheetReader, Stretch, Times, Timing};
-use sink::{ByteLog, RecordList, read_log};
+use sink::{ByteLog, NO_DISPATCH, RecordList, read_log};
 
 // How many records were drawn, and what became of them.
-#[derive(Clone, Copy, PartialEq, Eq, Debug)]
+#[derive(Clone, Copy, Default, PartialEq, Eq, Debug)]
 pub(crate) struct Tally {
     pub(crate) drawn: usize,
     pub(crate) passed: usize,
@@ -18,15 +18,33 @@ pub(crate) struct Tally {
     pub(crate) left: usize,
 }
 
-const NOTHING: Tally = Tally {
-    drawn: 0,
-    passed: 0,
-    over: 0,
-    repeats: 0,
-    dispatched: 0,
-    evicted: 0,
-    left: 0,
-};
+impl Tally {
+    // Counts a draw.
+    fn count_draw(&mut self, drawn: Drawn) {
+        match drawn {
+            Drawn::End => return,
+            Drawn::Passed => self.passed = self.passed.saturating_add(1),
+            Drawn::Dispatched => self.dispatched = self.dispatched.saturating_add(1),
+            Drawn::Over => self.over = self.over.saturating_add(1),
+            Drawn::Repeat => self.repeats = self.repeats.saturating_add(1),
+            Drawn::Kept => {}
+        }
+        self.drawn = self.drawn.saturating_add(1);
+    }
+
+    // Counts what a call did.
+    fn count(&mut self, call: Call, said: Said) {
+        match (call, said) {
+            (_, Said::Drew(drawn)) => self.count_draw(drawn),
+            (_, Said::Reached(n, _)) | (Call::Seek(_), Said::Count(n)) => {
+                self.dispatched = self.dispatched.saturating_add(n);
+            }
+            (Call::Leave(_), Said::Count(n)) => self.left = self.left.saturating_add(n),
+            (Call::Evict(_, _), Said::Count(n)) => self.evicted = self.evicted.saturating_add(n),
+            _ => {}
+        }
+    }
+}
 
 // A media buffer with two streams at its front, and where its sheet and its segment begin.
 #[derive(Clone, Copy)]
@@ -61,149 +79,117 @@ pub(crate) struct Outcome {
     pub(crate) tally: Tally,
 }
 
-// Counts a draw.
-fn drew(mut tally: Tally, drawn: Drawn) -> Tally {
-    match drawn {
-        Drawn::End => return tally,
-        Drawn::Passed => tally.passed = tally.passed.saturating_add(1),
-        Drawn::Dispatched => tally.dispatched = tally.dispatched.saturating_add(1),
-        Drawn::Over => tally.over = tally.over.saturating_add(1),
-        Drawn::Repeat => tally.repeats = tally.repeats.saturating_add(1),
-        Drawn::Kept => {}
-    }
-    tally.drawn = tally.drawn.saturating_add(1);
-    tally
-}
-
-// Counts what a call did.
-fn tallied(mut tally: Tally, call: Call, said: Said) -> Tally {
-    match (call, said) {
-        (_, Said::Drew(drawn)) => return drew(tally, drawn),
-        (_, Said::Reached(n, _)) => tally.dispatched = tally.dispatched.saturating_add(n),
-        (Call::Seek(_), Said::Count(n)) => tally.dispatched = tally.dispatched.saturating_add(n),
-        (Call::Leave(_), Said::Count(n)) => tally.left = tally.left.saturating_add(n),
-        (Call::Evict(_, _), Said::Count(n)) => tally.evicted = tally.evicted.saturating_add(n),
-        _ => {}
-    }
-    tally
-}
-
-// Plays to a time, after so many stops an eighth of the way apart.
-fn play_in<S: Sink>(player: &mut Player, to: u64, stops: u64, sink: &mut S) -> Said {
-    let from = player.playhead().ms();
-    let eighth = to.saturating_sub(from) / 8;
-    let mut sum = 0usize;
-    for n in 0..stops {
-        let stop = from.saturating_add(eighth.saturating_mul(n));
-        if let Said::Reached(told, _) = perform(player, Call::Play(stop), sink) {
-            sum = sum.saturating_add(told);
-        }
-    }
-    match perform(player, Call::Play(to), sink) {
-        Said::Reached(told, playhead) => Said::Reached(sum.saturating_add(told), playhead),
-        other => other,
-    }
-}
-
-// Makes the calls, each play with so many stops, and counts what they did.
-fn make_all<S: Sink>(
-    player: &mut Player,
-    calls: &[Call],
+// A player and its sink, how many stops each play makes, and what became of the records so far.
+#[derive(Drop)]
+struct Playing<'t, 's, S> {
+    player: Player<'t>,
+    sink: &'s mut S,
     stops: u64,
-    sink: &mut S,
-    mut tally: Tally,
-) -> Tally {
-    for call in calls {
-        let said = match *call {
-            Call::Play(to) => play_in(player, to, stops, sink),
-            other => perform(player, other, sink),
-        };
-        tally = tallied(tally, *call, said);
-    }
-    tally
-}
-
-// Draws from a feed four times, which is past its end, and counts what became of its records.
-fn draw_feed<F: Feed, S: Sink>(
-    player: &mut Player,
-    feed: &mut F,
-    sink: &mut S,
-    mut tally: Tally,
-) -> Tally {
-    for _ in 0..4 {
-        if let Ok(drawn) = player.draw(feed, sink) {
-            tally = drew(tally, drawn);
-        }
-    }
-    tally
-}
-
-// Draws the same event from the sheet and from the segment, in a period that starts at 1000.
-fn draw_both<S: Sink>(
-    player: &mut Player,
-    source: Source,
-    sink: &mut S,
     tally: Tally,
-) -> Result<Tally, Refusal> {
-    let catalogue = Catalogue::read(Stretch::new(source.media, 0, 12)?)?;
-    let sheet = Stretch::new(source.media, source.sheet, source.sheet.saturating_add(41))?;
-    let segment = Stretch::new(
-        source.media,
-        source.segment,
-        source.segment.saturating_add(38),
-    )?;
-    let timing = Timing::new(Times {
-        earliest: 0,
-        offset: 0,
-        media_ticks: 1000,
-        inband: 0,
-        inband_ticks: 1000,
-    })?;
-    let mut first = Period::new(SheetReader::new(sheet, &catalogue), 1000);
-    let mut second = Period::new(SegmentReader::new(segment, timing, &catalogue), 1000);
-    let half = draw_feed(player, &mut first, sink, tally);
-    Ok(draw_feed(player, &mut second, sink, half))
 }
 
-// A jump back, behind which an id that was told comes again, and a play that the sink's last place does not let through.
-fn run<S: Sink>(
-    player: &mut Player,
-    source: Source,
-    stops: u64,
-    sink: &mut S,
-) -> Result<Tally, Refusal> {
-    let follows = [
-        Call::Follow(0, Mode::OnStart),
-        Call::Follow(1, Mode::OnReceive),
-    ];
-    let start = make_all(player, &follows, stops, sink, NOTHING);
-    let drawn = draw_both(player, source, sink, start)?;
-    let other = in_stream(Some(1), event(Some(5), 7000, None));
-    let first = event(Some(1), 1000, Some(100));
-    let early = [
-        Call::Draw(first),
-        Call::Draw(event(Some(2), 3000, None)),
-        Call::Draw(in_stream(None, first)),
-        Call::Draw(other),
-        Call::Play(2500),
-        Call::Seek(500),
-        Call::Draw(first),
-        Call::Draw(event(Some(3), 100, Some(10))),
-        Call::Play(2900),
-    ];
-    let half = make_all(player, &early, stops, sink, drawn);
-    let late = [
-        Call::Leave(1),
-        Call::Follow(1, Mode::OnStart),
-        Call::Draw(other),
-        Call::Draw(event(Some(4), 4000, None)),
-        Call::Draw(event(Some(6), 4000, None)),
-        Call::Draw(arrived(60, event(Some(8), 9000, None))),
-        Call::Evict(60, 61),
-        Call::Leave(1),
-        Call::Play(8000),
-    ];
-    Ok(make_all(player, &late, stops, sink, half))
+impl<'t, 's, S: Sink> Playing<'t, 's, S> {
+    // Makes a call.
+    fn perform(&mut self, call: Call) -> Said {
+        perform(&mut self.player, call, self.sink)
+    }
+
+    // Plays to a time, after the stops an eighth of the way apart.
+    fn play(&mut self, to: u64) -> Said {
+        let from = self.player.playhead().ms();
+        let eighth = to.saturating_sub(from) / 8;
+        let mut sum = 0usize;
+        for n in 0..self.stops {
+            let stop = from.saturating_add(eighth.saturating_mul(n));
+            if let Said::Reached(told, _) = self.perform(Call::Play(stop)) {
+                sum = sum.saturating_add(told);
+            }
+        }
+        match self.perform(Call::Play(to)) {
+            Said::Reached(told, playhead) => Said::Reached(sum.saturating_add(told), playhead),
+            other => other,
+        }
+    }
+
+    // Makes the calls, and counts what they did.
+    fn make_all(&mut self, calls: &[Call]) {
+        for call in calls {
+            let said = match *call {
+                Call::Play(to) => self.play(to),
+                other => self.perform(other),
+            };
+            self.tally.count(*call, said);
+        }
+    }
+
+    // Draws from a feed four times, which is past its end, and counts what became of its records.
+    fn draw_feed<F: Feed>(&mut self, feed: &mut F) {
+        for _ in 0..4 {
+            if let Ok(drawn) = self.player.draw(feed, self.sink) {
+                self.tally.count_draw(drawn);
+            }
+        }
+    }
+
+    // Draws the same event from the sheet and from the segment, in a period that starts at 1000.
+    fn draw_both(&mut self, source: Source) -> Result<(), Refusal> {
+        let catalogue = Catalogue::read(Stretch::new(source.media, 0, 12)?)?;
+        let sheet = Stretch::new(source.media, source.sheet, source.sheet.saturating_add(41))?;
+        let segment = Stretch::new(
+            source.media,
+            source.segment,
+            source.segment.saturating_add(38),
+        )?;
+        let timing = Timing::new(Times {
+            earliest: 0,
+            offset: 0,
+            media_ticks: 1000,
+            inband: 0,
+            inband_ticks: 1000,
+        })?;
+        let mut first = Period::new(SheetReader::new(sheet, &catalogue), 1000);
+        let mut second = Period::new(SegmentReader::new(segment, timing, &catalogue), 1000);
+        self.draw_feed(&mut first);
+        self.draw_feed(&mut second);
+        Ok(())
+    }
+
+    // A jump back, behind which an id that was told comes again, and a play that the sink's last place does not let through.
+    fn run(&mut self, source: Source) -> Result<(), Refusal> {
+        let follows = [
+            Call::Follow(0, Mode::OnStart),
+            Call::Follow(1, Mode::OnReceive),
+        ];
+        self.make_all(&follows);
+        self.draw_both(source)?;
+        let other = in_stream(Some(1), event(Some(5), 7000, None));
+        let first = event(Some(1), 1000, Some(100));
+        let early = [
+            Call::Draw(first),
+            Call::Draw(event(Some(2), 3000, None)),
+            Call::Draw(in_stream(None, first)),
+            Call::Draw(other),
+            Call::Play(2500),
+            Call::Seek(500),
+            Call::Draw(first),
+            Call::Draw(event(Some(3), 100, Some(10))),
+            Call::Play(2900),
+        ];
+        self.make_all(&early);
+        let late = [
+            Call::Leave(1),
+            Call::Follow(1, Mode::OnStart),
+            Call::Draw(other),
+            Call::Draw(event(Some(4), 4000, None)),
+            Call::Draw(event(Some(6), 4000, None)),
+            Call::Draw(arrived(60, event(Some(8), 9000, None))),
+            Call::Evict(60, 61),
+            Call::Leave(1),
+            Call::Play(8000),
+        ];
+        self.make_all(&late);
+        Ok(())
+    }
 }
 
 // The dispatches with their message places set aside.
@@ -214,52 +200,58 @@ pub(crate) fn set_aside(mut told: [Dispatch; 5]) -> [Dispatch; 5] {
     told
 }
 
-// The message place of the third dispatch.
-fn third_place(told: [Dispatch; 5]) -> u32 {
-    told[2].message.place
+impl Outcome {
+    // What a player with so many stops shows, before its sink is read.
+    fn of<S: Sink>(source: Source, stops: u64, sink: &mut S) -> Result<Outcome, Refusal> {
+        let mut kept = [Kept::EMPTY; 8];
+        let mut used = [UsedId::EMPTY; 8];
+        let tables = Tables::new(&mut kept, &mut used)?;
+        let mut playing = Playing {
+            player: Player::new(tables, StreamCount::at_most(2)),
+            sink,
+            stops,
+            tally: Tally::default(),
+        };
+        playing.run(source)?;
+        Ok(Outcome {
+            playhead: playing.player.playhead().ms(),
+            kept: playing.player.kept_count(),
+            count: 0,
+            place: 0,
+            told: [NO_DISPATCH; 5],
+            tally: playing.tally,
+        })
+    }
+
+    // The same with these dispatches.
+    fn telling(self, count: usize, told: [Dispatch; 5]) -> Outcome {
+        Outcome {
+            count,
+            place: told[2].message.place,
+            told: set_aside(told),
+            ..self
+        }
+    }
 }
 
 // Plays whole, and tells a record list of five slots.
 pub(crate) fn on_list(source: Source) -> Result<Outcome, Refusal> {
-    let mut kept = [Kept::EMPTY; 8];
-    let mut used = [UsedId::EMPTY; 8];
-    let mut slots = [unused(); 5];
-    let tables = Tables::new(&mut kept, &mut used)?;
-    let mut player = Player::new(tables, StreamCount::at_most(2));
+    let mut slots = [NO_DISPATCH; 5];
     let mut list = RecordList::new(&mut slots);
-    let tally = run(&mut player, source, 0, &mut list)?;
-    let count = list.told().len();
-    let mut told = [unused(); 5];
+    let outcome = Outcome::of(source, 0, &mut list)?;
+    let mut told = [NO_DISPATCH; 5];
     for (slot, dispatch) in told.iter_mut().zip(list.told()) {
         *slot = *dispatch;
     }
-    Ok(Outcome {
-        playhead: player.playhead().ms(),
-        kept: player.kept_count(),
-        count,
-        place: third_place(told),
-        told: set_aside(told),
-        tally,
-    })
+    Ok(outcome.telling(list.told().len(), told))
 }
 
 // Plays in stops, and tells a byte log with room for five records and 39 bytes more.
 pub(crate) fn on_log(source: Source) -> Result<Outcome, Refusal> {
-    let mut kept = [Kept::EMPTY; 8];
-    let mut used = [UsedId::EMPTY; 8];
     let mut bytes = [0u8; 239];
-    let tables = Tables::new(&mut kept, &mut used)?;
-    let mut player = Player::new(tables, StreamCount::at_most(2));
     let mut log = ByteLog::new(&mut bytes);
-    let tally = run(&mut player, source, 8, &mut log)?;
-    let mut told = [unused(); 5];
+    let outcome = Outcome::of(source, 8, &mut log)?;
+    let mut told = [NO_DISPATCH; 5];
     let count = read_log(log.used(), &mut told)?;
-    Ok(Outcome {
-        playhead: player.playhead().ms(),
-        kept: player.kept_count(),
-        count,
-        place: third_place(told),
-        told: set_aside(told),
-        tally,
-    })
+    Ok(outcome.telling(count, told))
 }
