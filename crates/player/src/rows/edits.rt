@@ -34,10 +34,10 @@ impl<T: Ordered> Rows<'_, T> {
         let len = self.len;
         let mut left = 0;
         self.len = 0;
+        let slots = &mut *self.slots;
         for i in 0..len {
-            let x = self.slots[i];
-            if !test(&x) {
-                self.slots[left] = x;
+            if !test(&slots[i]) {
+                slots[left] = slots[i];
                 left += 1;
             }
         }

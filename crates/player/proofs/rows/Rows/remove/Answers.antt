@@ -1,6 +1,6 @@
 use Rattle.std.proofs.Common.{◌<◌, ◌≤◌, true, false, not, length, get_or, take, sym, ap, ◌∙◌, arith}
 use Rattle.std.proofs.lemmas.Fn.{says_at}
-use Rattle.std.proofs.lemmas.List.{length-set}
+use Rattle.std.proofs.lemmas.List.{get_or_read, length-set}
 use Rattle.std.proofs.lemmas.List.Filters.{FiltersInPlace-more_no, FiltersInPlace-more_set}
 use Rattle.tables.specs.Tables.{fails, sorted}
 use Rattle.tables.proofs.Filtered.{sorted_filtered, sorted_take}
@@ -12,26 +12,25 @@ pub loop-i-preserved : goal.loop-i-preserved
 loop-i-preserved g c =
     let inv = c.loop-i.invariant in
     let self = c.args.self.now in
-    let ys = c.loop-i.self.slots.now in
-    let x = get_or ys c.loop-i.i c.index-self-i.result in
+    let ys = c.loop-i.slots in
     let below : c.loop-i.i < length ys = omega (arith, inv.2, self.within) in
-    let read = ap (λ z. get_or ys c.loop-i.i z) c.index-self-i.is in
     elim c.if-not-test.branch [
       | then-not-test w ↦
-          rw (w.self-is, w.left-is) (
-            λ p is. FiltersInPlace-more_set (inv.0 p is) below (ap not (sym (is _ false (says_at g.F.Fn c.test.ensures w.if-not-test.true)))) read,
+          let x = w.index-slots-i-then-not-test.result in
+          rw (w.slots-is, w.left-is) (
+            λ p is. FiltersInPlace-more_set {x = x} (inv.0 p is) below
+                (ap (fails p) (get_or_read ys c.loop-i.i x below w.index-slots-i-then-not-test.is c.index-slots-i.result) ∙ ap not (sym (is _ false (says_at g.F.Fn c.test.ensures w.if-not-test.true))))
+                w.index-slots-i-then-not-test.is,
             behind_more self.slots.now ys c.loop-i.left x inv.1,
             simp length-set inv.2,
             omega arith,
-            inv.4,
           )
       | else-not-test w ↦
-          rw (w.self-is, w.left-is) (
-            λ p is. FiltersInPlace-more_no (inv.0 p is) below (ap not (sym (is _ true (says_at g.F.Fn c.test.ensures w.if-not-test.false)))) read,
+          rw (w.slots-is, w.left-is) (
+            λ p is. FiltersInPlace-more_no (inv.0 p is) below (ap not (sym (is _ true (says_at g.F.Fn c.test.ensures w.if-not-test.false)))) (ap (λ z. get_or ys c.loop-i.i z) c.index-slots-i.is),
             inv.1,
             inv.2,
             omega arith,
-            inv.4,
           )
     ]
 

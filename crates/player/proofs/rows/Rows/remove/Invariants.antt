@@ -6,8 +6,7 @@ use Rattle.player.proofs.rows.Rows.remove.Given as goal
 
 abbrev pub invariant-loop-i : goal.invariant-loop-i
 invariant-loop-i g l =
-    ((p : _) → Computes g.F.Fn p l.test → FiltersInPlace (fails p) l.fn.self.slots.now l.self.slots.now l.left l.i)
-    × (drop l.left l.self.slots.now ≡ drop l.left l.fn.self.slots.now)
-    × (length l.self.slots.now ≡ length l.fn.self.slots.now)
+    ((p : _) → Computes g.F.Fn p l.test → FiltersInPlace (fails p) l.fn.self.slots.now l.slots l.left l.i)
+    × (drop l.left l.slots ≡ drop l.left l.fn.self.slots.now)
+    × (length l.slots ≡ length l.fn.self.slots.now)
     × (l.left ≤ l.i)
-    × (l.self.len ≡ 0)
