@@ -85,9 +85,17 @@ pub(crate) fn told(position: u64, trigger: Trigger, event: Event) -> Dispatch {
     }
 }
 
-// Draws from a feed of one record, or of none and an ending.
-fn draw<S: Sink>(player: &mut Player, mut feed: One, sink: &mut S) -> Said {
-    let record = feed.event;
+// Draws from a feed of at most one record, and of a fault behind it where there is one.
+fn draw<S: Sink>(
+    player: &mut Player,
+    record: Option<Event>,
+    fault: Option<Fault>,
+    sink: &mut S,
+) -> Said {
+    let mut feed = One {
+        event: record,
+        fault,
+    };
     match player.draw(&mut feed, sink) {
         Ok(drawn) if feed.event.is_none() => Said::Drew(drawn),
         Err(refusal) if feed.event == record => refused(refusal),
@@ -110,30 +118,9 @@ pub(crate) fn perform<S: Sink>(player: &mut Player, call: Call, sink: &mut S) ->
             .follow(stream, mode)
             .map_or_else(refused, |()| Said::Done),
         Call::Leave(stream) => player.leave(stream).map_or_else(refused, Said::Count),
-        Call::Draw(event) => draw(
-            player,
-            One {
-                event: Some(event),
-                fault: None,
-            },
-            sink,
-        ),
-        Call::DrawEnd => draw(
-            player,
-            One {
-                event: None,
-                fault: None,
-            },
-            sink,
-        ),
-        Call::DrawFault => draw(
-            player,
-            One {
-                event: None,
-                fault: Some(FAULT),
-            },
-            sink,
-        ),
+        Call::Draw(event) => draw(player, Some(event), None, sink),
+        Call::DrawEnd => draw(player, None, None, sink),
+        Call::DrawFault => draw(player, None, Some(FAULT), sink),
         Call::Play(to) => player.play(to, sink).map_or_else(refused, |played| {
             Said::Reached(played.told, played.playhead.ms())
         }),

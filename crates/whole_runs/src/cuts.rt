@@ -39,12 +39,10 @@ fn bytes(heap: Global, steps: &[Step]) -> Result<Vec<u8>, Fail> {
 fn lines(heap: Global, steps: &[Step], to: usize) -> Result<String, Fail> {
     let mut text = String::from_str(heap, "cues 1\n")?;
     let mut left = to;
-    let mut number = 0u32;
     let mut playhead = 0;
     let mut kept = 0;
-    for step in steps {
+    for (number, step) in (1..=steps.len()).zip(steps) {
         let length = run_sheet(heap, step.record)?.len();
-        number = number.wrapping_add(1);
         if left >= length {
             text.push_str(step.line)?;
             playhead = step.playhead;

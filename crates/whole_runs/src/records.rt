@@ -13,67 +13,64 @@
 use std::alloc::Global;
 use std::test::*;
 
-// A run sheet in the making: its bytes, and those of the sheet or segment that is still open.
+// A run sheet in the making: its bytes, and those of the sheet or segment that is open.
 #[derive(Drop)]
 struct Draft {
-    bytes: Vec<u8>,
-    inside: Vec<u8>,
-    open: bool,
+    sheet: Bytes,
+    inside: Option<Bytes>,
 }
 
 // The bytes of a run sheet.
 pub(crate) fn run_sheet(heap: Global, text: &str) -> Result<Vec<u8>, Fail> {
     let mut draft = Draft {
-        bytes: Vec::new(heap),
-        inside: Vec::new(heap),
-        open: false,
+        sheet: Bytes::new(heap),
+        inside: None,
     };
     for line in text.lines() {
-        draft.add(heap, line)?;
+        draft.add(line)?;
     }
     draft.close()?;
-    Ok(draft.bytes)
+    Ok(draft.sheet.bytes)
 }
 
 impl Draft {
     // Adds a line: to what is open, or to the run sheet itself.
-    fn add(&mut self, heap: Global, line: &str) -> Result<(), Fail> {
+    fn add(&mut self, line: &str) -> Result<(), Fail> {
         match word(line, 0).as_bytes() {
-            b"ES" | b"EV" => add_record(heap, &mut self.inside, line),
-            b"EVS" => add_events(&mut self.inside, line),
-            b"EVL" => add_long_event(&mut self.inside, line),
-            b"E0" | b"E1" | b"BOX" => add_box(heap, &mut self.inside, line),
-            b"IN" => add_string(&mut self.inside, word(line, 1)),
+            b"ES" | b"EV" | b"EVS" | b"EVL" | b"E0" | b"E1" | b"BOX" | b"IN" => {
+                match &mut self.inside {
+                    Some(inside) => inside.add_inside(line),
+                    None => Err(Fail::new("no sheet or segment is open")),
+                }
+            }
             _ => {
                 self.close()?;
-                self.add_command(heap, line)
+                self.add_command(line)
             }
         }
     }
 
     // Adds a record of the run sheet itself; `MP` and `SG` are then open.
-    fn add_command(&mut self, heap: Global, line: &str) -> Result<(), Fail> {
+    fn add_command(&mut self, line: &str) -> Result<(), Fail> {
         match word(line, 0).as_bytes() {
             b"" | b"#" => Ok(()),
-            b"SVS" => add_streams(&mut self.bytes, line),
-            b"PLS" => add_plays(&mut self.bytes, line),
-            b"RAW" => add_string(&mut self.bytes, word(line, 1)),
-            b"ZEROS" => add_same(&mut self.bytes, number(line, 1)?, 0),
+            b"SVS" => self.sheet.add_streams(line),
+            b"PLS" => self.sheet.add_plays(line),
+            b"RAW" => self.sheet.add_string(word(line, 1)),
+            b"ZEROS" => self.sheet.add_same(number(line, 1)?, 0),
             b"MP" | b"SG" => {
-                self.open = true;
-                add_record(heap, &mut self.bytes, line)
+                self.inside = Some(Bytes::new(self.sheet.heap));
+                self.sheet.add_record(line)
             }
-            _ => add_record(heap, &mut self.bytes, line),
+            _ => self.sheet.add_record(line),
         }
     }
 
     // Closes what is open: its length, and then its bytes.
     fn close(&mut self) -> Result<(), Fail> {
-        if self.open {
-            add_number(&mut self.bytes, 2, self.inside.len() as u64)?;
-            self.bytes.extend_from_slice(&self.inside)?;
-            self.inside.clear();
-            self.open = false;
+        if let Some(inside) = self.inside.take() {
+            self.sheet.add_number(2, inside.bytes.len() as u64)?;
+            self.sheet.add(&inside.bytes)?;
         }
         Ok(())
     }
@@ -89,32 +86,6 @@ pub(crate) fn number(line: &str, n: usize) -> Result<u64, Fail> {
     Ok(word(line, n).parse::<u64>()?)
 }
 
-// The bytes of a string.
-fn string(heap: Global, word: &str) -> Result<Vec<u8>, Fail> {
-    let mut bytes = Vec::new(heap);
-    add_string(&mut bytes, word)?;
-    Ok(bytes)
-}
-
-// Adds the bytes of a string.
-fn add_string(bytes: &mut Vec<u8>, word: &str) -> Result<(), Fail> {
-    match word.as_bytes() {
-        b"-" => Ok(()),
-        [b'0', b'x', digits @ ..] => add_hexadecimal(bytes, digits),
-        text => Ok(bytes.extend_from_slice(text)?),
-    }
-}
-
-// Adds a byte for each two digits.
-fn add_hexadecimal(bytes: &mut Vec<u8>, digits: &[u8]) -> Result<(), Fail> {
-    for i in 0..digits.len() / 2 {
-        let high = hexadecimal(digits[2 * i]);
-        let low = hexadecimal(digits[2 * i + 1]);
-        bytes.push(high << 4 | low)?;
-    }
-    Ok(())
-}
-
 // The value of a digit.
 fn hexadecimal(digit: u8) -> u8 {
     match digit {
@@ -122,17 +93,6 @@ fn hexadecimal(digit: u8) -> u8 {
         b'a'..=b'f' => digit - b'a' + 10,
         _ => 0,
     }
-}
-
-// Adds a number of so many bytes.
-fn add_number(bytes: &mut Vec<u8>, width: u8, number: u64) -> Result<(), Fail> {
-    match width {
-        1 => bytes.push(u8::try_from(number)?)?,
-        2 => bytes.extend_from_slice(&u16::try_from(number)?.to_be_bytes())?,
-        4 => bytes.extend_from_slice(&u32::try_from(number)?.to_be_bytes())?,
-        _ => bytes.extend_from_slice(&number.to_be_bytes())?,
-    }
-    Ok(())
 }
 
 // How the fields of a record lie in its bytes: for each a digit, the word that it is in, behind how it is written. 1, 4 and 8 are numbers of so many bytes, `l` and `m` lengths of a string in one byte and in two, `s` a string and `z` one that is closed by a 0 byte.
@@ -152,117 +112,173 @@ fn layout(mark: &[u8]) -> &'static [u8] {
     }
 }
 
-// Adds the fields of a line.
-fn add_fields(heap: Global, bytes: &mut Vec<u8>, line: &str) -> Result<(), Fail> {
-    let fields = layout(word(line, 0).as_bytes());
-    for i in 0..fields.len() / 2 {
-        let n = usize::from(hexadecimal(fields[2 * i + 1]));
-        add_field(heap, bytes, fields[2 * i], line, n)?;
-    }
-    Ok(())
-}
-
-// Adds a field that is in the n-th word.
-fn add_field(
+// Bytes in the making.
+#[derive(Drop)]
+struct Bytes {
     heap: Global,
-    bytes: &mut Vec<u8>,
-    form: u8,
-    line: &str,
-    n: usize,
-) -> Result<(), Fail> {
-    let string = string(heap, word(line, n))?;
-    match form {
-        b'l' => add_number(bytes, 1, string.len() as u64),
-        b'm' => add_number(bytes, 2, string.len() as u64),
-        b's' => Ok(bytes.extend_from_slice(&string)?),
-        b'z' => {
-            bytes.extend_from_slice(&string)?;
-            bytes.push(0)?;
-            Ok(())
-        }
-        width => add_number(bytes, hexadecimal(width), number(line, n)?),
-    }
+    bytes: Vec<u8>,
 }
 
-// Adds a record: its mark and its fields.
-fn add_record(heap: Global, bytes: &mut Vec<u8>, line: &str) -> Result<(), Fail> {
-    bytes.extend_from_slice(word(line, 0).as_bytes())?;
-    add_fields(heap, bytes, line)
-}
-
-// Adds a box: its size, its type and its body.
-fn add_box(heap: Global, bytes: &mut Vec<u8>, line: &str) -> Result<(), Fail> {
-    let mut body = Vec::new(heap);
-    match word(line, 0).as_bytes() {
-        b"E0" => body.extend_from_slice(b"emsg\0\0\0\0")?,
-        b"E1" => body.extend_from_slice(b"emsg\x01\0\0\0")?,
-        _ => {
-            add_string(&mut body, word(line, 1))?;
-            add_string(&mut body, word(line, 2))?;
+impl Bytes {
+    // No bytes yet.
+    fn new(heap: Global) -> Bytes {
+        Bytes {
+            heap,
+            bytes: Vec::new(heap),
         }
     }
-    add_fields(heap, &mut body, line)?;
-    add_number(bytes, 4, (body.len() as u64).wrapping_add(4))?;
-    bytes.extend_from_slice(&body)?;
-    Ok(())
-}
 
-// Adds an event of these flags, time and id, with no duration.
-fn add_event(bytes: &mut Vec<u8>, flags: u64, time: u64, id: u64) -> Result<(), Fail> {
-    bytes.extend_from_slice(b"EV")?;
-    add_number(bytes, 1, flags)?;
-    add_number(bytes, 8, time)?;
-    add_number(bytes, 4, 0)?;
-    add_number(bytes, 4, id)
-}
+    // Adds bytes as they stand.
+    fn add(&mut self, bytes: &[u8]) -> Result<(), Fail> {
+        Ok(self.bytes.extend_from_slice(bytes)?)
+    }
 
-// Adds the events of an `EVS`.
-fn add_events(bytes: &mut Vec<u8>, line: &str) -> Result<(), Fail> {
-    let flags = number(line, 2)?;
-    let mut time = number(line, 3)?;
-    let mut id = number(line, 4)?;
-    let step = number(line, 5)?;
-    for _ in 0..number(line, 1)? {
-        add_event(bytes, flags, time, id)?;
-        add_number(bytes, 2, 0)?;
-        time = time.wrapping_add(step);
-        if flags & 2 != 0 {
-            id = id.wrapping_add(1);
+    // Adds the same byte so many times.
+    fn add_same(&mut self, count: u64, byte: u8) -> Result<(), Fail> {
+        for _ in 0..count {
+            self.bytes.push(byte)?;
+        }
+        Ok(())
+    }
+
+    // Adds a number of so many bytes.
+    fn add_number(&mut self, width: u8, number: u64) -> Result<(), Fail> {
+        match width {
+            1 => self.add(&u8::try_from(number)?.to_be_bytes()),
+            2 => self.add(&u16::try_from(number)?.to_be_bytes()),
+            4 => self.add(&u32::try_from(number)?.to_be_bytes()),
+            _ => self.add(&number.to_be_bytes()),
         }
     }
-    Ok(())
-}
 
-// Adds the event of an `EVL`.
-fn add_long_event(bytes: &mut Vec<u8>, line: &str) -> Result<(), Fail> {
-    let length = number(line, 3)?;
-    add_event(bytes, number(line, 1)?, number(line, 2)?, 0)?;
-    add_number(bytes, 2, length)?;
-    add_same(bytes, length, b'A')
-}
-
-// Adds the same byte so many times.
-fn add_same(bytes: &mut Vec<u8>, count: u64, byte: u8) -> Result<(), Fail> {
-    for _ in 0..count {
-        bytes.push(byte)?;
+    // Adds the bytes of a string.
+    fn add_string(&mut self, word: &str) -> Result<(), Fail> {
+        match word.as_bytes() {
+            b"-" => Ok(()),
+            [b'0', b'x', digits @ ..] => self.add_hexadecimal(digits),
+            text => self.add(text),
+        }
     }
-    Ok(())
-}
 
-// Adds the streams of an `SVS`.
-fn add_streams(bytes: &mut Vec<u8>, line: &str) -> Result<(), Fail> {
-    for n in 0..number(line, 1)? {
-        bytes.extend_from_slice(b"SV\x01\0")?;
-        add_number(bytes, 1, n.wrapping_add(65))?;
+    // Adds a byte for each two digits.
+    fn add_hexadecimal(&mut self, digits: &[u8]) -> Result<(), Fail> {
+        let (pairs, _) = digits.as_chunks::<2>();
+        for [high, low] in pairs {
+            self.bytes
+                .push(hexadecimal(*high) << 4 | hexadecimal(*low))?;
+        }
+        Ok(())
     }
-    Ok(())
-}
 
-// Adds the plays of a `PLS`.
-fn add_plays(bytes: &mut Vec<u8>, line: &str) -> Result<(), Fail> {
-    for n in 0..number(line, 1)? {
-        bytes.extend_from_slice(b"PL")?;
-        add_number(bytes, 8, n.wrapping_add(1))?;
+    // Adds the fields of a line.
+    fn add_fields(&mut self, line: &str) -> Result<(), Fail> {
+        let (fields, _) = layout(word(line, 0).as_bytes()).as_chunks::<2>();
+        for [form, place] in fields {
+            self.add_field(*form, line, usize::from(hexadecimal(*place)))?;
+        }
+        Ok(())
     }
-    Ok(())
+
+    // Adds a field that is in the n-th word.
+    fn add_field(&mut self, form: u8, line: &str, n: usize) -> Result<(), Fail> {
+        let mut string = Bytes::new(self.heap);
+        string.add_string(word(line, n))?;
+        match form {
+            b'l' => self.add_number(1, string.bytes.len() as u64),
+            b'm' => self.add_number(2, string.bytes.len() as u64),
+            b's' => self.add(&string.bytes),
+            b'z' => {
+                self.add(&string.bytes)?;
+                self.add(b"\0")
+            }
+            width => self.add_number(hexadecimal(width), number(line, n)?),
+        }
+    }
+
+    // Adds a record: its mark and its fields.
+    fn add_record(&mut self, line: &str) -> Result<(), Fail> {
+        self.add(word(line, 0).as_bytes())?;
+        self.add_fields(line)
+    }
+
+    // Adds a line of a sheet or a segment.
+    fn add_inside(&mut self, line: &str) -> Result<(), Fail> {
+        match word(line, 0).as_bytes() {
+            b"EVS" => self.add_events(line),
+            b"EVL" => self.add_long_event(line),
+            b"E0" | b"E1" | b"BOX" => self.add_box(line),
+            b"IN" => self.add_string(word(line, 1)),
+            _ => self.add_record(line),
+        }
+    }
+
+    // Adds a box: its size, its type and its body.
+    fn add_box(&mut self, line: &str) -> Result<(), Fail> {
+        let mut body = Bytes::new(self.heap);
+        match word(line, 0).as_bytes() {
+            b"E0" => body.add(b"emsg\0\0\0\0")?,
+            b"E1" => body.add(b"emsg\x01\0\0\0")?,
+            _ => {
+                body.add_string(word(line, 1))?;
+                body.add_string(word(line, 2))?;
+            }
+        }
+        body.add_fields(line)?;
+        self.add_number(4, (body.bytes.len() as u64).wrapping_add(4))?;
+        self.add(&body.bytes)
+    }
+
+    // Adds an event of these flags, time and id, with no duration.
+    fn add_event(&mut self, flags: u64, time: u64, id: u64) -> Result<(), Fail> {
+        self.add(b"EV")?;
+        self.add_number(1, flags)?;
+        self.add_number(8, time)?;
+        self.add_number(4, 0)?;
+        self.add_number(4, id)
+    }
+
+    // Adds the events of an `EVS`.
+    fn add_events(&mut self, line: &str) -> Result<(), Fail> {
+        let flags = number(line, 2)?;
+        let time = number(line, 3)?;
+        let id = number(line, 4)?;
+        let step = number(line, 5)?;
+        let named = u64::from(flags & 2 != 0);
+        for n in 0..number(line, 1)? {
+            let later = n.wrapping_mul(step);
+            self.add_event(
+                flags,
+                time.wrapping_add(later),
+                id.wrapping_add(n.wrapping_mul(named)),
+            )?;
+            self.add_number(2, 0)?;
+        }
+        Ok(())
+    }
+
+    // Adds the event of an `EVL`.
+    fn add_long_event(&mut self, line: &str) -> Result<(), Fail> {
+        let length = number(line, 3)?;
+        self.add_event(number(line, 1)?, number(line, 2)?, 0)?;
+        self.add_number(2, length)?;
+        self.add_same(length, b'A')
+    }
+
+    // Adds the streams of an `SVS`.
+    fn add_streams(&mut self, line: &str) -> Result<(), Fail> {
+        for n in 0..number(line, 1)? {
+            self.add(b"SV\x01\0")?;
+            self.add_number(1, n.wrapping_add(65))?;
+        }
+        Ok(())
+    }
+
+    // Adds the plays of a `PLS`.
+    fn add_plays(&mut self, line: &str) -> Result<(), Fail> {
+        for n in 0..number(line, 1)? {
+            self.add(b"PL")?;
+            self.add_number(8, n.wrapping_add(1))?;
+        }
+        Ok(())
+    }
 }

@@ -72,10 +72,10 @@ pub(crate) fn reports(rt: &impl Abort, heap: Global, sheet: &str, lines: &str) -
 // Each case reports what it says: a case is a run sheet, a line `---` and the lines, and an empty line stands behind it.
 pub(crate) fn cases(rt: &impl Abort, heap: Global, text: &str) -> Result<(), Fail> {
     for case in text.split("\n\n") {
-        match case.split_once("---") {
-            None => return Err(Fail::new("a case has no lines")),
-            Some((sheet, lines)) => reports(rt, heap, sheet, lines)?,
-        }
+        let Some((sheet, lines)) = case.split_once("---") else {
+            return Err(Fail::new("a case has no lines"));
+        };
+        reports(rt, heap, sheet, lines)?;
     }
     Ok(())
 }
