@@ -53,7 +53,7 @@ def block(text, at):
 def functions():
     """Each function with a body: place, name, parameters, clauses, body."""
     for path, text in sources():
-        for m in re.finditer(r"\bfn (\w+)(?:<[^()]*?>)?\(", text):
+        for m in re.finditer(r"\bfn (\w+)(?:<(?:->|\([^()]*\)|<[^<>]*>|[^<>()])*>)?\(", text):
             depth, i = 1, m.end()
             while depth:
                 depth += {"(": 1, ")": -1}.get(text[i], 0)

@@ -30,7 +30,7 @@ const ALPHABET: &[u8; 64] = b"ABCDEFGHIJKLMNOPQRSTUVWXYZabcdefghijklmnopqrstuvwx
 fn listed(c: u8) -> u8
     ensures { result ≡ value c }
 {
-    VALUES[c as usize]
+    VALUES[usize::from(c)]
 }
 
 // The value of a character, if it is of the alphabet.

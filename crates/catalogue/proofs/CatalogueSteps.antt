@@ -84,7 +84,7 @@ refused_settled at ts a s None e =
     let l : length ts ≡ length (ts ++ s ∷ []) = ap (λ p. length p.1) e in absurd (omega (arith, length_push ts s))
 refused_settled at ts a s (Some x) e = (x, refl, ap (λ p. p.0) e)
 
-refused_from : (at : ℕ) (ts : List Stream) (a : Answer ℕ) (o : Option Stream) → (a, ts) ≡ added at o ts → (e : Refusal) × (record_turn ts o ≡ Broken e) × (a ≡ refusal e)
+pub refused_from : (at : ℕ) (ts : List Stream) (a : Answer ℕ) (o : Option Stream) → (a, ts) ≡ added at o ts → (e : Refusal) × (record_turn ts o ≡ Broken e) × (a ≡ refusal e)
 refused_from at ts a None e = (CatalogueRecord, refl, ap (λ p. p.0) e)
 refused_from at ts a (Some s) e = refused_settled at ts a s (flaw s ts) e
 

@@ -32,12 +32,11 @@ behind_marked r q s k h is w =
     (w.0 ∙ ap (front (items s)) h.0 ∙ ap (λ m. items s ++ m) (drop-append-drop (length (items q)) r.slots.now (items q) (length (items s)) (omega (arith, ap length is, length_marked k (items q))) refl), w.1 ∙ h.1)
 
 -- the first i of xs gone through: what passes p is told and marked
-pub record Told {o : _} (p : Kept → Bool) (f : Kept → Dispatch) (xs : List Kept) (u v : Rows UsedId o) (h g : Held) (n i : ℕ) : Type 0 where
-  pub count : n ≡ length (filter p (take i xs))
+pub record Told {o : _} (p : Kept → Bool) (f : Kept → Dispatch) (xs : List Kept) (u v : Rows UsedId o) (h g : Held) (i : ℕ) : Type 0 where
   pub held : g ≡ told_to h (map f (filter p (take i xs)))
   pub used : items v ≡ marked_all (filter p (take i xs)) (items u)
 
-module _ {o : _} {p : Kept → Bool} {f : Kept → Dispatch} {xs : List Kept} {u v : Rows UsedId o} {h g : Held} {n i : ℕ} (so_far : Told p f xs u v h g n i)
+module _ {o : _} {p : Kept → Bool} {f : Kept → Dispatch} {xs : List Kept} {u v : Rows UsedId o} {h g : Held} {i : ℕ} (so_far : Told p f xs u v h g i)
     (below : i < length xs) {x : Kept} (read : x ≡ get_or xs i x) where
   more_is : (b : Bool) → p x ≡ b → filter p (take (i + 1) xs) ≡ filter p (take i xs) ++ cond b (x ∷ []) []
   more_is b e =
@@ -45,11 +44,10 @@ module _ {o : _} {p : Kept → Bool} {f : Kept → Dispatch} {xs : List Kept} {u
       ∙ ap (λ y. filter p (take i xs) ++ cond (p y) (y ∷ []) []) (sym read)
       ∙ ap (λ c. filter p (take i xs) ++ cond c (x ∷ []) []) e
 
-  pub told_skip : p x ≡ false → Told p f xs u v h g n (i + 1)
+  pub told_skip : p x ≡ false → Told p f xs u v h g (i + 1)
   told_skip e =
       let same : filter p (take i xs) ≡ filter p (take (i + 1) xs) = sym (more_is false e ∙ append-nil (filter p (take i xs))) in
       record {
-        count = so_far.count ∙ ap length same;
         held = so_far.held ∙ ap (λ l. told_to h (map f l)) same;
         used = so_far.used ∙ ap (λ l. marked_all l (items u)) same;
       }
@@ -75,14 +73,13 @@ module _ {o : _} {p : Kept → Bool} {f : Kept → Dispatch} {xs : List Kept} {u
         let used = ap length so_far.used ∙ length_marked_all (filter p (take i xs)) (items u) in
         omega (arith, k, all, e, used)
 
-    pub told_one : (v' : Rows UsedId o) (g' : Held) (d : Dispatch) → d ≡ f x → g' ≡ more g d → items v' ≡ marked x (items v) → Told p f xs u v' h g' (n + 1) (i + 1)
+    pub told_one : (v' : Rows UsedId o) (g' : Held) (d : Dispatch) → d ≡ f x → g' ≡ more g d → items v' ≡ marked x (items v) → Told p f xs u v' h g' (i + 1)
     told_one v' g' d is told used = record {
-      count = omega (arith, so_far.count, ap length more_picked, length_push (filter p (take i xs)) x);
       held = told ∙ ap (λ q. more q d) so_far.held ∙ told_to_more h (map f (filter p (take i xs))) d
           ∙ ap (λ e. told_to h (map f (filter p (take i xs)) ++ (e ∷ []))) is
           ∙ ap (told_to h) (sym (map_push f (filter p (take i xs)) x) ∙ ap (map f) (sym more_picked));
       used = used ∙ ap (marked x) so_far.used ∙ sym (marked_all_push (filter p (take i xs)) x (items u)) ∙ ap (λ l. marked_all l (items u)) (sym more_picked);
     }
 
-pub told_none : {o : _} (p : Kept → Bool) (f : Kept → Dispatch) (xs : List Kept) (u : Rows UsedId o) (h : Held) → Told p f xs u u h h 0 0
-told_none p f xs u h = record { count = refl; held = told_to_none h; used = refl }
+pub told_none : {o : _} (p : Kept → Bool) (f : Kept → Dispatch) (xs : List Kept) (u : Rows UsedId o) (h : Held) → Told p f xs u u h h 0
+told_none p f xs u h = record { held = told_to_none h; used = refl }

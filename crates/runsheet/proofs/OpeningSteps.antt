@@ -1,20 +1,19 @@
 -- One turn over the catalogue records at the front of a run sheet.
-use Rattle.std.proofs.Common.{◌≡◌, ℕ, suc, ◌+◌, min, true, false, eqb, List, [], ◌∷◌, ◌++◌, length, drop, Some, None, Option, sym, refl, ap, ◌∙◌, subst, append_assoc, append-nil, arith}
+use Rattle.std.proofs.Common.{◌≡◌, ℕ, suc, ◌+◌, min, true, false, eqb, List, [], ◌∷◌, ◌++◌, length, drop, None, sym, ap, ◌∙◌, subst, append_assoc, append-nil, arith}
 use Rattle.std.proofs.lemmas.List.{length_push}
 use Rattle.std.proofs.lemmas.Bool.{cond_both, cond-false, cond-true, ne_eqb}
-use Rattle.event.specs.Numbers.{Answer, refusal}
+use Rattle.event.specs.Numbers.{refusal}
 use Rattle.event.specs.declared.refusals.Refusal.{Refusal}
-use Rattle.event.specs.declared.refusals.Refusal.TheVariants.{CatalogueRecord}
 use Rattle.media.specs.Stretches.{left}
 use Rattle.media.specs.Walks.{Forward, Goes, given, onward}
 use Rattle.media.specs.declared.stretches.Stretch.{Stretch}
 use Rattle.media.specs.declared.walks.Turn.TheVariants.{Clean, Broken, Gives}
 use Rattle.media.proofs.Parts as parts
 use Rattle.media.proofs.Turns.{given_is}
-use Rattle.catalogue.specs.CatalogueWalks.{CatalogueTurn, admitted, all_listed, record_turn}
-use Rattle.catalogue.specs.Catalogues.{added, behind, flaw, settled}
+use Rattle.catalogue.specs.CatalogueWalks.{CatalogueTurn, all_listed, record_turn}
+use Rattle.catalogue.specs.Catalogues.{added}
 use Rattle.catalogue.specs.Pairs.{Stream, listing}
-use Rattle.catalogue.proofs.CatalogueSteps.{Listed, before, catalogue_forward, long}
+use Rattle.catalogue.proofs.CatalogueSteps.{Listed, before, catalogue_forward, long, refused_from}
 use Rattle.catalogue.proofs.Refused.{same_refusal}
 use Rattle.runsheet.specs.Commands.{marked}
 use Rattle.runsheet.specs.Openings.{Opening, lengths, more, opening_turn, records_in}
@@ -41,16 +40,6 @@ pub at_end_lem : (s : Stretch) (at : ℕ) (ts : List Stream) → marked 83 86 (l
 at_end_lem s at ts h =
     ap (before ts) (on_from_lem s at ts Clean (cond-false (marked 83 86 (left s at)) (record_turn ts (listing (left s at))) Clean h)) ∙
     ap (λ us. record { items = us; stop = None }) (append-nil ts)
-
--- a record that was refused, with its list unchanged
-refused_settled : (at : ℕ) (ts : List Stream) (a : Answer ℕ) (s : Stream) (q : Option Refusal) → (a, ts) ≡ settled q (behind at s) ts → (e : Refusal) × (admitted ts s q ≡ Broken e) × (a ≡ refusal e)
-refused_settled at ts a s None e =
-    let l : length ts ≡ length (ts ++ s ∷ []) = ap (λ p. length p.1) e in absurd (omega (arith, length_push ts s))
-refused_settled at ts a s (Some x) e = (x, refl, ap (λ p. p.0) e)
-
-refused_from : (at : ℕ) (ts : List Stream) (a : Answer ℕ) (o : Option Stream) → (a, ts) ≡ added at o ts → (e : Refusal) × (record_turn ts o ≡ Broken e) × (a ≡ refusal e)
-refused_from at ts a None e = (CatalogueRecord, refl, ap (λ p. p.0) e)
-refused_from at ts a (Some s) e = refused_settled at ts a s (flaw s ts) e
 
 -- the opening stops at that record
 pub record Stopped (w : Opening) (ts : List Stream) (e : Refusal) : Type 0 where

@@ -1,4 +1,6 @@
 // A record list: dispatches at the front of a lent slice.
+ghost use Rattle.std.specs.Prelude.{◌≤◌, length};
+
 use event::{Dispatch, Message, Span, Time, Trigger};
 
 pub mod methods;
@@ -25,4 +27,5 @@ pub const NO_DISPATCH: Dispatch = Dispatch {
 pub struct RecordList<'a> {
     slots: &'a mut [Dispatch],
     count: usize,
+    ghost within: { count ≤ length slots.now },
 }

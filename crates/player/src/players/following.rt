@@ -14,7 +14,7 @@ impl Player<'_> {
         ensures { result ≡ mode_of (state self.now) stream }
     {
         if stream < self.head.streams.count() {
-            self.head.modes[stream as usize]
+            self.head.modes[usize::from(stream)]
         } else {
             Mode::Off
         }
@@ -35,7 +35,7 @@ impl Player<'_> {
         if self.mode(stream) != Mode::Off {
             return Err(Refusal::AlreadyFollowed);
         }
-        self.head.modes[stream as usize] = mode;
+        self.head.modes[usize::from(stream)] = mode;
         Ok(())
     }
 
@@ -53,7 +53,7 @@ impl Player<'_> {
         }
         let forgotten = self.forget(|event| event.stream == stream);
         self.used.remove(|name| name.stream == stream);
-        self.head.modes[stream as usize] = Mode::Off;
+        self.head.modes[usize::from(stream)] = Mode::Off;
         Ok(forgotten)
     }
 }

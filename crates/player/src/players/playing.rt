@@ -22,24 +22,20 @@ pub(crate) fn tell_picked<F: Fn(&Kept) -> bool, P: Fn(&Kept) -> Time, S: Sink>(
     picks: &F,
     position: &P,
     sink: &mut S,
-) -> usize
+)
     requires picks_callable { F.IsAlwaysCallable picks.now }
     requires position_callable { P.IsAlwaysCallable position.now }
     requires fits { (t : Pick) × Picks F.Fn P.Fn t picks.now position.now × (length (filter t.passes kept.now) ≤ (S.held sink.old).free) × (length (items used.old) + ids (filter t.passes kept.now) ≤ length used.old.slots.now) }
-    ensures value { (t : Pick) → Picks F.Fn P.Fn t picks.now position.now → result ≡ length (filter t.passes kept.now) }
     ensures told { (t : Pick) → Picks F.Fn P.Fn t picks.now position.now → S.held sink.new ≡ told_to (S.held sink.old) (map (told_by t.told_at) (filter t.passes kept.now)) }
     ensures items { (t : Pick) → Picks F.Fn P.Fn t picks.now position.now → items used.new ≡ marked_all (filter t.passes kept.now) (items used.old) }
     ensures behind { Behind used.old used.new }
 {
-    let mut told = 0;
     for event in kept {
         if picks(event) {
             tell_free(sink, event.dispatch(position(event), Trigger::Start));
             used.mark(*event);
-            told += 1;
         }
     }
-    told
 }
 
 impl Player<'_> {
@@ -59,10 +55,11 @@ impl Player<'_> {
         ensures lent { Lent self.old self.new }
     {
         let used = self.used.len;
-        let told = tell_picked(self.kept.items(), &mut self.used, &picks, &position, sink);
+        let kept = self.kept.len;
+        tell_picked(self.kept.items(), &mut self.used, &picks, &position, sink);
         self.kept.remove(picks);
         self.head.kept_ids -= self.used.len - used;
-        told
+        kept - self.kept.len
     }
 
     // How far a play comes with so many free places.

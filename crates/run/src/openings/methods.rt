@@ -62,9 +62,6 @@ impl<'a> Opening<'a> {
     pub fn streams(&self) -> StreamCount
         ensures { result.count ≡ listed_by self.now.script }
     {
-        match self.script {
-            Err(_) => StreamCount::at_most(0),
-            Ok(script) => script.catalogue.streams(),
-        }
+        self.script.map_or(StreamCount::at_most(0), |script| script.catalogue.streams())
     }
 }

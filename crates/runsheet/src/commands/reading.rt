@@ -104,8 +104,5 @@ fn segment_length(bytes: &[u8]) -> Option<u16>
     ensures { result ≡ segment_length bytes.now }
 {
     let length = u16::from_be_bytes(*chunk_at(bytes, 32)?);
-    if bytes.len() < 34 + usize::from(length) {
-        return None;
-    }
-    Some(length)
+    (34 + usize::from(length) <= bytes.len()).then_some(length)
 }

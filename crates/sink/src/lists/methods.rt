@@ -22,8 +22,7 @@ impl<'a> RecordList<'a> {
     pub fn told(&self) -> &[Dispatch]
         ensures { result.now ≡ (held_in self.now).told }
     {
-        let slots = &*self.slots;
-        &slots[..self.count.min(slots.len())]
+        &self.slots[..self.count]
     }
 }
 
@@ -31,7 +30,7 @@ impl<'a> Sink for RecordList<'a> {
     ghost held = { held_in };
 
     fn free_places(&self) -> usize {
-        self.slots.len().saturating_sub(self.count)
+        self.slots.len() - self.count
     }
 
     fn tell(&mut self, dispatch: Dispatch) -> Result<(), Refusal>

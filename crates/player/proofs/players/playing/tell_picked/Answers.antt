@@ -27,19 +27,17 @@ loop-event-preserved g c =
     elim c.if-picks.branch [
       | then-picks w ↦
           let done = w.mark.ensures in
-          rw (w.used-is, w.sink-is, w.told-is) (
+          rw (w.used-is, w.sink-is) (
             λ t is.
                 let at = is.1 _ w.position.result (says_at g.P.Fn w.position.ensures refl) in
                 told_one (inv.0 t is) (omega arith) c.event-item.is (sym (is.0 _ true (says_at g.F.Fn c.picks.ensures w.if-picks.true)))
                 w.mark.new.self (g.S.Sink.held w.tell_free.new.sink) w.dispatch.result (w.dispatch.ensures ∙ ap (λ p. dispatched p Start x) at) w.tell_free.ensures done.items,
             behind_marked c.args.used.now c.loop-event.used w.mark.new.self x inv.1 done.items done.behind,
-            omega arith,
           )
       | else-picks w ↦
-          rw (w.used-is, w.sink-is, w.told-is) (
+          rw (w.used-is, w.sink-is) (
             λ t is. told_skip (inv.0 t is) (omega arith) c.event-item.is (sym (is.0 _ false (says_at g.F.Fn c.picks.ensures w.if-picks.false))),
             inv.1,
-            omega arith,
           )
     ]
 
