@@ -1,5 +1,5 @@
 -- Writing a list to the front of another, part after part.
-use Rattle.std.proofs.Common.{◌≡◌, ℕ, ◌+◌, ◌-◌, ◌≤◌, List, [], ◌++◌, length, take, drop, sym, ap, ◌∙◌, subst, append_assoc, append-nil, arith}
+use Rattle.std.proofs.Common.{◌≡◌, ℕ, ◌+◌, ◌-◌, ◌≤◌, List, [], ◌++◌, length, take, drop, sym, ap, ◌∙◌, subst, append_assoc, append-nil, arith, refl}
 use borrow.Rule.Slice.PartMut.{put_mid}
 use Rattle.std.proofs.lemmas.List.{length-append, length-drop, length-take-le, take_rest, take-append-drop, take_at, drop_at, drop-drop, drop_all}
 use Rattle.event.specs.Fronts.{front}
@@ -9,6 +9,9 @@ pub record Filling (whole todo first out : List ℕ) (at : ℕ) : Type 0 where
   pub written : take at out ++ todo ≡ whole
   pub behind : drop at out ≡ drop at first
   pub within : at ≤ length out
+
+pub start : (whole first : List ℕ) → Filling whole whole first first 0
+start whole first = record { written = refl; behind = refl; within = omega arith }
 
 module _ {whole todo first out : List ℕ} {at : ℕ} (h : Filling whole todo first out at) where
   pub done : todo ≡ [] → out ≡ front whole first

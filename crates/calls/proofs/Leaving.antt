@@ -25,6 +25,9 @@ pub leaves_done : (s : ℕ) (w : State) → s < w.streams → is_off (mode_of w 
 leaves_done s w l e = rw (lt-leb w.streams s l, e)
 
 module _ (t : ℕ) (w : State) (h : Held) where
+  pub seeks_late : latest < t → ◌≡◌ {A = Seek} (refused 20, w, h) (seeks t w h)
+  seeks_late l = rw (lt-ltb latest t l)
+
   pub seeks_full : t ≤ latest → h.free < length (filter (active_at t) w.kept) → ◌≡◌ {A = Seek} (refused 24, w, h) (seeks t w h)
   seeks_full l f = rw (le-ltb latest t l, lt-ltb h.free (length (filter (active_at t) w.kept)) f)
 
@@ -45,5 +48,8 @@ module _ (t : ℕ) (w : State) (h : Held) where
       ∙ seeks_on l (omega (arith, ap (λ u. length (filter (active_at u) w.kept)) is))
 
 module _ (a b : ℕ) (w : State) where
+  pub evicts_back : b < a → ◌≡◌ {A = Answer ℕ × State} (refused 25, w) (evicts a b w)
+  evicts_back l = rw (lt-ltb b a l)
+
   pub evicts_done : a ≤ b → ◌≡◌ {A = Answer ℕ × State} (did (length (filter (arrived_in a b) w.kept)), with_kept w (without (arrived_in a b) w.kept)) (evicts a b w)
   evicts_done l = rw (le-ltb b a l)

@@ -1,5 +1,5 @@
 -- Telling and marking event after event.
-use Rattle.std.proofs.Common.{◌≡◌, ℕ, ◌+◌, ◌-◌, ◌≤◌, Bool, cond, List, [], ◌∷◌, ◌++◌, length, take, drop, Some, None, filter, is_some, Option, sym, refl, ap, ◌∙◌, inl, inr, arith}
+use Rattle.std.proofs.Common.{◌≡◌, ℕ, ◌+◌, ◌-◌, ◌≤◌, Bool, cond, List, [], ◌∷◌, ◌++◌, length, take, drop, Some, None, filter, is_some, Option, sym, refl, ap, ◌∙◌, inl, inr, arith, true}
 use Rattle.std.proofs.lemmas.List.Elements.{filter-append}
 use Rattle.std.proofs.lemmas.List.{append_assoc, append-nil, length-append, length_push, take-append-drop, take-take}
 use Rattle.std.proofs.lemmas.Bool.{cases_Bool}
@@ -11,12 +11,17 @@ use Rattle.calls.specs.Draws.{marked, marked_as}
 use Rattle.tables.specs.Elements.{has_id, id_before, name_of}
 use Rattle.calls.specs.Plays.{marked_all, told_to}
 use Rattle.calls.specs.State.{ids}
-use Rattle.tables.specs.Tables.{without}
+use Rattle.tables.specs.Tables.{without, sorted}
+use Rattle.calls.proofs.Drawing.{marked_sorted}
 use Rattle.tables.proofs.InOrder.{length_placed}
 
 pub marked_all_push : (ks : List Kept) (k : Kept) (u : List UsedId) → marked_all (ks ++ (k ∷ [])) u ≡ marked k (marked_all ks u)
 marked_all_push [] k u = refl
 marked_all_push (j ∷ ks) k u = marked_all_push ks k (marked j u)
+
+pub marked_all_sorted : (ks : List Kept) (u : List UsedId) → sorted id_before u ≡ true → sorted id_before (marked_all ks u) ≡ true
+marked_all_sorted [] u h = h
+marked_all_sorted (k ∷ ks) u h = marked_all_sorted ks (marked k u) (marked_sorted k u h)
 
 length_marked_as : (o : Option ℕ) (s : ℕ) (u : List UsedId) → length (marked_as o s u) ≡ length u + cond (is_some o) 1 0
 length_marked_as None s u = omega arith

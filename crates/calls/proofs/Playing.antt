@@ -11,6 +11,9 @@ use Rattle.tables.specs.Picks.{starts_in}
 use Rattle.calls.specs.State.{State}
 
 module _ (t : ℕ) (w : State) (h : Held) where
+  pub plays_late : latest < t → ◌≡◌ {A = Play} (refused 20, w, h) (plays t w h)
+  plays_late l = rw (lt-ltb latest t l)
+
   pub plays_back : t ≤ latest → t < w.playhead.ms → ◌≡◌ {A = Play} (refused 21, w, h) (plays t w h)
   plays_back l b = rw (le-ltb latest t l, lt-ltb t w.playhead.ms b)
 

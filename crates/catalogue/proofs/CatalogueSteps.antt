@@ -1,5 +1,5 @@
 -- One turn of a walk over the records of a catalogue.
-use Rattle.std.proofs.Common.{◌≡◌, ℕ, ◌+◌, ◌≤◌, true, false, cond, not, eqb, leb, List, [], ◌∷◌, ◌++◌, length, drop, is_some, Some, None, Option, sym, refl, ap, ◌∙◌, append_assoc, append-nil, arith}
+use Rattle.std.proofs.Common.{◌≡◌, ℕ, ◌+◌, ◌≤◌, true, false, cond, not, eqb, leb, List, [], ◌∷◌, ◌++◌, length, drop, is_some, Some, None, Option, sym, refl, ap, ◌∙◌, append_assoc, append-nil, arith, ◌<◌}
 use Rattle.std.proofs.lemmas.List.{length_push}
 use Rattle.std.proofs.lemmas.Bool.{cond_both, cond-false, cond-true}
 use Rattle.event.specs.Numbers.{Answer, refusal}
@@ -127,3 +127,10 @@ at_listed s at place ts us h l =
     ap (λ p. before us (on_from s p us)) l.place_is ∙ ap (λ x. before x w) l.list_is ∙
     ap (λ x. record { items = x; stop = w.stop }) (append_assoc ts (l.one ∷ []) w.items) ∙
     ap (before ts) (sym turned)
+
+-- it ends within the stretch
+pub listed_within : (s : Stretch) (at place : ℕ) (ts us : List Stream) → Listed at place ts us (listing (left s at)) → (at < place) × (place ≤ s.to)
+listed_within s at place ts us l =
+    let f = (stands (left s at) l.one l.found).fits in
+    let p = part_fits s.media.now at s.to in
+    let q = l.place_is in (omega arith, omega arith)

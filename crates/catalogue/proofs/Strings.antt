@@ -1,11 +1,15 @@
 -- Strings as they stand in records.
-use Rattle.std.proofs.Common.{◌≡◌, ℕ, ◌+◌, ◌-◌, ◌≤◌, ◌&&◌, leb, List, length, get_or, take, drop, Some, None, sym, refl, ap, ◌∙◌, subst, arith}
+use Rattle.std.proofs.Common.{◌≡◌, ℕ, ◌+◌, ◌-◌, ◌≤◌, ◌&&◌, leb, List, length, get_or, take, drop, Some, None, sym, refl, ap, ◌∙◌, subst, arith, true}
 use Rattle.std.specs.List.{between}
 use Rattle.std.proofs.lemmas.List.{drop-drop, length-drop, length-take-le}
-use Rattle.std.proofs.lemmas.Bool.{and_parts, cond_both, leb-true}
+use Rattle.std.proofs.lemmas.Bool.{and_parts, cond_both, leb-true, and_from, eq-eqb}
 use Rattle.media.proofs.Parts.{inside}
 use Rattle.catalogue.specs.Catalogues.{behind, ends}
 use Rattle.catalogue.specs.Pairs.{Stream, front, fronted, listing, marked}
+
+-- a mark that is read byte by byte
+pub marked_from : (a b : ℕ) (bs : List ℕ) → get_or bs 0 0 ≡ a → get_or bs 1 0 ≡ b → marked a b bs ≡ true
+marked_from a b bs p q = and_from _ _ (eq-eqb _ a p) (eq-eqb _ b q)
 
 -- where the strings of an `SV` record stand in its bytes
 pub record Stands (bs : List ℕ) (s : Stream) : Type 0 where

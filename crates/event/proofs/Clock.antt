@@ -1,6 +1,6 @@
 -- A time is known by its milliseconds.
-use Rattle.std.proofs.Common.{◌≡◌, ℕ, ◌≤◌, cond, leb, Some, None, ap, ◌∙◌, inl, inr, arith}
-use Rattle.std.proofs.lemmas.Bool.{cases_Bool, leb-true}
+use Rattle.std.proofs.Common.{◌≡◌, ℕ, ◌≤◌, cond, leb, Some, None, ap, ◌∙◌, inl, inr, arith, ◌<◌}
+use Rattle.std.proofs.lemmas.Bool.{cases_Bool, leb-true, leb-false}
 use mathlib.Core.HLevel.{is_prop→PathP}
 use native.Mathlib.Bridge.{le_prop}
 use Rattle.event.specs.Times.{latest, time}
@@ -35,4 +35,14 @@ made_some n t e =
           let s : Some t ≡ None = rw f at e in
           let z : ◌≡◌ {A = ℕ} 0 1 = cc in
           absurd (omega arith)
+    ]
+
+pub made_none : (n : ℕ) → None ≡ cond (leb n latest) (Some (time n)) None → latest < n
+made_none n e =
+    elim (cases_Bool (leb n latest)) [
+      | inl y ↦
+          let s : None ≡ Some (time n) = rw y at e in
+          let z : ◌≡◌ {A = ℕ} 0 1 = cc in
+          absurd (omega arith)
+      | inr f ↦ leb-false n latest f
     ]

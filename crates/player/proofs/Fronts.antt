@@ -1,13 +1,14 @@
 -- Lists written to the front of lent memory.
-use Rattle.std.proofs.Common.{◌≡◌, ℕ, suc, ◌+◌, ◌-◌, ◌<◌, ◌≤◌, Bool, true, false, not, List, [], ◌∷◌, ◌++◌, length, take, drop, set, sym, refl, ap, ◌∙◌, arith}
+use Rattle.std.proofs.Common.{◌≡◌, ℕ, suc, ◌+◌, ◌-◌, ◌<◌, ◌≤◌, Bool, true, false, not, List, [], ◌∷◌, ◌++◌, length, take, drop, set, sym, refl, ap, ◌∙◌, arith, cond, get_or}
 use borrow.Rule.Slice.PartMut.{put_mid}
 use denote.Ref.{Bor}
 use Rattle.std.specs.Fn.{Called, ComputesKey, Mut}
 use Rattle.std.specs.List.Sorted.{IsPartitionedBy, IsPartitionPoint}
 use Rattle.std.specs.List.{between}
-use Rattle.std.proofs.lemmas.List.{append_assoc, drop-append-le, drop-drop, drop-set-lt, drop_at, length-append, length-drop, length-take-le, length_push, set_split, take-append-le, take_at}
+use Rattle.std.proofs.lemmas.List.{append_assoc, drop-append-le, drop-drop, drop-set-lt, drop_at, length-append, length-drop, length-take-le, length_push, set_split, take-append-le, take_at, append-nil, drop_more, get_or-append_right, get_or-drop, length-set, set_at, take-append-drop}
+use Rattle.std.proofs.lemmas.List.Elements.{filter_more}
 use Rattle.event.specs.Fronts.{front}
-use Rattle.tables.specs.Tables.{placed, prefix, sorted}
+use Rattle.tables.specs.Tables.{placed, prefix, sorted, fails, without}
 use Rattle.tables.proofs.InOrder.{length_placed, placed_at, placed_sorted, sorted_leads}
 use Rattle.tables.proofs.Prefixes.{search_prefix}
 
@@ -92,3 +93,83 @@ module _ {X : Type 0} (before : X → X → Bool)
 -- one more element written behind a front
 pub behind_more : {X : Type 0} (xs ys : List X) (left : ℕ) (x : X) → drop left ys ≡ drop left xs → drop (left + 1) (set ys left x) ≡ drop (left + 1) xs
 behind_more xs ys left x h = drop-set-lt (left + 1) ys left x (omega arith) ∙ sym (drop-drop 1 left ys) ∙ ap (drop 1) h ∙ drop-drop 1 left xs
+
+-- nothing written
+pub front_same : {X : Type 0} (xs : List X) (n : ℕ) → n ≤ length xs → xs ≡ front (take n xs) xs
+front_same xs n h = sym (ap (λ k. take n xs ++ drop k xs) (length-take-le n xs h) ∙ take-append-drop n xs)
+
+-- ys began as xs: what fails p among the first i of xs stands in its first `left` places, and the rest is as it was
+pub record Compacted {X : Type 0} (p : X → Bool) (xs ys : List X) (left i : ℕ) : Type 0 where
+  pub slots : ys ≡ front (without p (take i xs)) xs
+  pub count : left ≡ length (without p (take i xs))
+  pub behind : left ≤ i
+  pub long : length ys ≡ length xs
+
+pub compacted_none : {X : Type 0} (p : X → Bool) (xs : List X) → Compacted p xs xs 0 0
+compacted_none p xs = record { slots = refl; count = refl; behind = omega arith; long = refl }
+
+module _ {X : Type 0} {p : X → Bool} {xs ys : List X} {left i : ℕ} (so_far : Compacted p xs ys left i) (below : i < length xs) {x : X} (read : x ≡ get_or ys i x) where
+  zs : List X
+  zs = without p (take i xs)
+
+  original : get_or xs i x ≡ x
+  unfolding zs
+  original =
+      let k : length (without p (take i xs)) ≡ left = sym so_far.count in
+      let b = so_far.behind in
+      let e : length (without p (take i xs)) + (i - length (without p (take i xs))) ≡ i = omega arith in
+      let t = get_or-append_right (without p (take i xs)) (drop (length (without p (take i xs))) xs) (length (without p (take i xs))) i x refl (omega arith) in
+      let u = get_or-drop (length (without p (take i xs))) xs (i - length (without p (take i xs))) x in
+      sym (read ∙ ap (λ l. get_or l i x) so_far.slots ∙ t ∙ u ∙ ap (λ n. get_or xs n x) e)
+
+  pub compacted_drop : p x ≡ true → Compacted p xs ys left (i + 1)
+  compacted_drop e =
+      let more : without p (take (i + 1) xs) ≡ without p (take i xs) =
+      filter_more (fails p) xs i x below ∙ ap (λ y. without p (take i xs) ++ cond (not (p y)) (y ∷ []) []) original ∙ ap (λ b. without p (take i xs) ++ cond (not b) (x ∷ []) []) e ∙ append-nil (without p (take i xs)) in
+      let b = so_far.behind in
+      record {
+        slots = so_far.slots ∙ ap (λ l. front l xs) (sym more);
+        count = so_far.count ∙ ap length (sym more);
+        behind = omega arith;
+        long = so_far.long;
+      }
+
+  pub compacted_keep : p x ≡ false → Compacted p xs (set ys left x) (left + 1) (i + 1)
+  compacted_keep e =
+      let more : without p (take (i + 1) xs) ≡ without p (take i xs) ++ (x ∷ []) =
+      filter_more (fails p) xs i x below ∙ ap (λ y. without p (take i xs) ++ cond (not (p y)) (y ∷ []) []) original ∙ ap (λ b. without p (take i xs) ++ cond (not b) (x ∷ []) []) e in
+      let b = so_far.behind in
+      let c = so_far.count in
+      let k : ℕ = length (without p (take i xs)) in
+      let here : k < length xs = omega arith in
+      let split : ys ≡ without p (take i xs) ++ (get_or xs k x ∷ drop (k + 1) xs) = so_far.slots ∙ ap (λ l. without p (take i xs) ++ l) (drop_more xs k x here) in
+      let written : set ys left x ≡ without p (take i xs) ++ (x ∷ drop (k + 1) xs) =
+      ap (λ l. set l left x) split ∙ set_at (without p (take i xs)) (get_or xs k x) (drop (k + 1) xs) x left (sym c) in
+      let joined : without p (take i xs) ++ (x ∷ drop (k + 1) xs) ≡ front (without p (take (i + 1) xs)) xs =
+      sym (ap (λ l. front l xs) more
+      ∙ append_assoc (without p (take i xs)) (x ∷ []) (drop (length (without p (take i xs) ++ (x ∷ []))) xs)
+      ∙ ap (λ n. without p (take i xs) ++ (x ∷ drop n xs)) (length_push (without p (take i xs)) x)) in
+      record {
+        slots = written ∙ joined;
+        count = omega (arith, ap length more, length_push (without p (take i xs)) x);
+        behind = omega arith;
+        long = simp length-set so_far.long;
+      }
+
+-- all of the first n gone through
+pub record Removed {X : Type 0} (p : X → Bool) (xs ys : List X) (n left : ℕ) : Type 0 where
+  pub items : take left ys ≡ without p (take n xs)
+  pub slots : ys ≡ front (without p (take n xs)) xs
+  pub places : length ys ≡ length xs
+  pub len : left ≡ length (without p (take n xs))
+
+pub compacted_all : {X : Type 0} {p : X → Bool} {xs ys : List X} {left i : ℕ} → Compacted p xs ys left i → (n : ℕ) → i ≡ n → Removed p xs ys n left
+compacted_all {p = p} {xs = xs} {ys = ys} {left = left} {i = i} h n e =
+    let slots : ys ≡ front (without p (take n xs)) xs = h.slots ∙ ap (λ k. front (without p (take k xs)) xs) e in
+    let len : left ≡ length (without p (take n xs)) = h.count ∙ ap (λ k. length (without p (take k xs))) e in
+    record {
+      items = ap (take left) slots ∙ take_front (without p (take n xs)) xs left (sym len);
+      slots = slots;
+      places = h.long;
+      len = len;
+    }

@@ -1,8 +1,8 @@
 // A list of calls, made on a fresh player one after the other.
-use crate::steps::{Call, Said, perform};
+use crate::steps::{Call, Said, perform, unused};
 use event::{Dispatch, StreamCount};
 use player::{Kept, Player, Tables, UsedId};
-use sink::{NO_DISPATCH, RecordList};
+use sink::RecordList;
 use std::process::Abort;
 use std::test::Fail;
 
@@ -71,7 +71,7 @@ pub(crate) fn script(
 ) -> Result<(), Fail> {
     let mut kept = [Kept::EMPTY; 8];
     let mut used = [UsedId::EMPTY; 8];
-    let mut slots = [NO_DISPATCH; 8];
+    let mut slots = [unused(); 8];
     assert!(rt; places.events <= 8 && places.ids <= 8 && places.dispatches <= 8);
     let tables = Tables::new(&mut kept[0..places.events], &mut used[0..places.ids])?;
     let mut stage = Stage {

@@ -85,6 +85,11 @@ pub(crate) fn told(position: u64, trigger: Trigger, event: Event) -> Dispatch {
     }
 }
 
+// A dispatch that no list expects, for unused slots.
+pub(crate) fn unused() -> Dispatch {
+    told(0, Trigger::Receive, event(None, 0, None))
+}
+
 // Draws from a feed of at most one record, and of a fault behind it where there is one.
 fn draw<S: Sink>(
     player: &mut Player,

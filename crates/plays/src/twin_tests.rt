@@ -1,8 +1,7 @@
 // What the two players show, beside what the rules give.
-use crate::steps::{event, in_stream, told};
+use crate::steps::{event, in_stream, told, unused};
 use crate::twins::{Outcome, SEGMENT_FIRST, SHEET_FIRST, on_list, on_log, set_aside};
 use event::{Dispatch, Event, Trigger};
-use sink::NO_DISPATCH;
 use std::process::Abort;
 use std::test::Fail;
 
@@ -33,7 +32,7 @@ fn expected() -> [Dispatch; 5] {
         told(1000, Trigger::Start, event(Some(1), 1000, Some(100))),
         told(2000, Trigger::Start, both),
         told(3000, Trigger::Start, event(Some(2), 3000, None)),
-        NO_DISPATCH,
+        unused(),
     ];
     set_aside(told)
 }

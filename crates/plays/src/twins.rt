@@ -1,10 +1,10 @@
 // The same calls on two players: one tells a record list and plays whole, the other tells a byte log and plays in stops.
-use crate::steps::{Call, Said, arrived, event, in_stream, perform};
+use crate::steps::{Call, Said, arrived, event, in_stream, perform, unused};
 use event::{Dispatch, Feed, Mode, Refusal, Sink, StreamCount};
 use layers::Period;
 use player::{Drawn, Kept, Player, Tables, UsedId};
 use reader::{Catalogue, SegmentReader, SheetReader, Stretch, Times, Timing};
-use sink::{ByteLog, NO_DISPATCH, RecordList, read_log};
+use sink::{ByteLog, RecordList, read_log};
 
 // How many records were drawn, and what became of them.
 #[derive(Clone, Copy, Default, PartialEq, Eq, Debug)]
@@ -218,7 +218,7 @@ impl Outcome {
             kept: playing.player.kept_count(),
             count: 0,
             place: 0,
-            told: [NO_DISPATCH; 5],
+            told: [unused(); 5],
             tally: playing.tally,
         })
     }
@@ -236,10 +236,10 @@ impl Outcome {
 
 // Plays whole, and tells a record list of five slots.
 pub(crate) fn on_list(source: Source) -> Result<Outcome, Refusal> {
-    let mut slots = [NO_DISPATCH; 5];
+    let mut slots = [unused(); 5];
     let mut list = RecordList::new(&mut slots);
     let outcome = Outcome::of(source, 0, &mut list)?;
-    let mut told = [NO_DISPATCH; 5];
+    let mut told = [unused(); 5];
     for (slot, dispatch) in told.iter_mut().zip(list.told()) {
         *slot = *dispatch;
     }
@@ -251,7 +251,7 @@ pub(crate) fn on_log(source: Source) -> Result<Outcome, Refusal> {
     let mut bytes = [0u8; 239];
     let mut log = ByteLog::new(&mut bytes);
     let outcome = Outcome::of(source, 8, &mut log)?;
-    let mut told = [NO_DISPATCH; 5];
+    let mut told = [unused(); 5];
     let count = read_log(log.used(), &mut told)?;
     Ok(outcome.telling(count, told))
 }

@@ -107,7 +107,7 @@ box_forward ts t at z bs k v (Ok (Some w)) h e =
     let s = judged_usable z (length bs) k v (Some w) h e in
     gives_forward at (span z (length bs)) (length bs) (emsg_event ts t (at + span z (length bs)) (emsg_of w (drop 4 (body z bs)))) s.some s.fits
 
-segment_forward : (ts : List Stream) (t : Timing) → Forward (segment_turn ts t)
+pub segment_forward : (ts : List Stream) (t : Timing) → Forward (segment_turn ts t)
 segment_forward ts t s at bs =
     cond_both (eqb (length bs) 0) Clean (box_turn ts t at (size_of bs) bs (found bs)) (Goes (length bs)) (λ _. tt)
     (λ h. let ne = eqb-false (length bs) 0 h in box_forward ts t at (size_of bs) bs (kind bs) (version (body (size_of bs) bs)) (found bs) (omega arith) refl)

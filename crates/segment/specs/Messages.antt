@@ -36,7 +36,7 @@ box_within ts t at z bs (Ok (Some v)) =
     emsg_within ts t at (span z (length bs)) (emsg_of v (drop 4 (body z bs)))
     (λ e i. omega (arith, emsg_fits v (drop 4 (body z bs)) e i, length-drop 4 (body z bs), body_fits z bs))
 
-segment_within : (ts : List Stream) (t : Timing) (s : Unit {0}) (at : ℕ) (bs : List ℕ) → Within at (segment_turn ts t s at bs)
+pub segment_within : (ts : List Stream) (t : Timing) (s : Unit {0}) (at : ℕ) (bs : List ℕ) → Within at (segment_turn ts t s at bs)
 segment_within ts t s at bs =
     cond_both (eqb (length bs) 0) Clean (box_turn ts t at (size_of bs) bs (found bs)) (Within at) (λ _. tt) (λ _. box_within ts t at (size_of bs) bs (found bs))
 

@@ -58,7 +58,7 @@ read_forward ts s at n (Some e) q h k =
 read_forward ts s at n None (Some v) h k = ev_forward s at (at + 21) v n (k v refl)
 read_forward ts s at n None None h k = tt
 
-sheet_forward : (ts : List Stream) → Forward (sheet_turn ts)
+pub sheet_forward : (ts : List Stream) → Forward (sheet_turn ts)
 sheet_forward ts s at bs =
     cond_both (eqb (length bs) 0) Clean (read_turn ts s at (es_record bs) (ev_record bs)) (Goes (length bs)) (λ _. tt) (λ _. read_forward ts s at (length bs) (es_record bs) (ev_record bs) (es_long bs) (ev_long bs))
 

@@ -46,7 +46,7 @@ read_within ts s at (Some e) p =
 read_within ts s at None (Some v) = ev_within s at v
 read_within ts s at None None = tt
 
-sheet_within : (ts : List Stream) (s : Option EventStream) (at : ℕ) (bs : List ℕ) → Within at (sheet_turn ts s at bs)
+pub sheet_within : (ts : List Stream) (s : Option EventStream) (at : ℕ) (bs : List ℕ) → Within at (sheet_turn ts s at bs)
 sheet_within ts s at bs =
     cond_both (eqb (length bs) 0) Clean (read_turn ts s at (es_record bs) (ev_record bs)) (Within at) (λ _. tt) (λ _. read_within ts s at (es_record bs) (ev_record bs))
 

@@ -1,6 +1,7 @@
 -- Reading one record after the other.
-use Rattle.std.proofs.Common.{◌≡◌, ℕ, zero, suc, ◌+◌, ◌<◌, ◌≤◌, min, true, cond, leb, List, [], ◌∷◌, ◌++◌, length, take, drop, set, is_ok, Ok, Err, Result, sym, refl, ap, ◌∙◌, ⊎_elim, append-nil, arith}
-use Rattle.std.proofs.lemmas.List.{append_assoc, drop_all, drop_at, drop_more, drop-set-lt, length-append, take_all, take_at, take-append-drop, take_more_set}
+use Rattle.std.proofs.Common.{◌≡◌, ℕ, zero, suc, ◌+◌, ◌<◌, ◌≤◌, min, true, cond, leb, List, [], ◌∷◌, ◌++◌, length, take, drop, set, is_ok, Ok, Err, Result, sym, refl, ap, ◌∙◌, ⊎_elim, append-nil, arith, ◌-◌, ◌*◌}
+use native.Mathlib.Nat.{sub-zero}
+use Rattle.std.proofs.lemmas.List.{append_assoc, drop_all, drop_at, drop_more, drop-set-lt, length-append, take_all, take_at, take-append-drop, take_more_set, drop-drop}
 use Rattle.std.proofs.lemmas.Bool.{cases_lt, false≢true, cond-true, cond-false, le-leb, lt-leb}
 use Rattle.event.specs.Fronts.{front}
 use Rattle.event.specs.Numbers.Answer.{did, refused}
@@ -13,6 +14,25 @@ use Rattle.sink.specs.Records.{read_record}
 up_to_suc : (m : ℕ) (bs : List ℕ) → read_up_to (suc m) bs ≡ followed (read_record (take 40 bs)) (read_up_to m (drop 40 bs))
 unfolding read_up_to
 up_to_suc m bs = refl
+
+-- what is left to read of k records, from the n-th on
+abbrev pub left : ℕ → ℕ → List ℕ → Result (List Dispatch) Defect
+left k n bs = read_up_to (k - n) (drop (40 * n) bs)
+
+pub left_all : (k : ℕ) (bs : List ℕ) → read_up_to k bs ≡ left k 0 bs
+left_all k bs = ap (λ m. read_up_to m bs) (sym (sub-zero k))
+
+pub left_none : (k n : ℕ) (bs : List ℕ) → k ≤ n → left k n bs ≡ Ok []
+unfolding read_up_to
+left_none k n bs h = let e : k - n ≡ 0 = omega arith in ap (λ m. read_up_to m (drop (40 * n) bs)) e
+
+pub left_more : (k n : ℕ) (bs : List ℕ) → n < k → left k n bs ≡ followed (read_record (take 40 (drop (40 * n) bs))) (left k (n + 1) bs)
+left_more k n bs h =
+    let e : k - n ≡ suc (k - (n + 1)) = omega arith in
+    let f : 40 * n + 40 ≡ 40 * (n + 1) = omega arith in
+    ap (λ m. read_up_to m (drop (40 * n) bs)) e
+    ∙ up_to_suc (k - (n + 1)) (drop (40 * n) bs)
+    ∙ ap (λ cs. followed (read_record (take 40 (drop (40 * n) bs))) (read_up_to (k - (n + 1)) cs)) (drop-drop 40 (40 * n) bs ∙ ap (λ m. drop m bs) f)
 
 none : (l : List ℕ) → length l ≡ 0 → l ≡ []
 none [] e = refl

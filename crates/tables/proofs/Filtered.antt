@@ -1,5 +1,6 @@
 -- Lists, and what a test picks of them.
-use Rattle.std.proofs.Common.{◌≡◌, ℕ, zero, suc, ◌+◌, ◌≤◌, Bool, true, cond, not, List, [], ◌∷◌, length, take, filter, refl, inl, inr, arith}
+use Rattle.std.proofs.Common.{◌≡◌, ℕ, zero, suc, ◌+◌, ◌≤◌, Bool, true, cond, not, List, [], ◌∷◌, length, take, filter, refl, inl, inr, arith, ◌<◌, get_or, sym, ap, ◌∙◌}
+use Rattle.std.proofs.lemmas.List.Filters.{length-filter_more}
 use Rattle.std.proofs.lemmas.Bool.{and_from, and_parts, cases_Bool}
 use Rattle.tables.specs.Tables.{none, placed, sorted}
 
@@ -49,3 +50,7 @@ count_placed before p x (y ∷ ys) =
       ])
       | inr f ↦ rw f (elim (cases_Bool (p y)) [ inl b ↦ rw b (omega (arith, ih)) | inr b ↦ rw b ih ])
     ]
+
+-- counting
+pub counted_more : {X : Type 0} (p : X → Bool) (xs : List X) (i : ℕ) (x : X) (b : Bool) → i < length xs → x ≡ get_or xs i x → p x ≡ b → length (filter p (take (i + 1) xs)) ≡ length (filter p (take i xs)) + cond b 1 0
+counted_more p xs i x b l read e = length-filter_more p xs i x l ∙ ap (λ c. length (filter p (take i xs)) + cond c 1 0) (ap p (sym read) ∙ e)

@@ -23,6 +23,9 @@ id_further x y z h k = grind (arith, nat_tests)
 pub kept_placed_sorted : (k : Kept) (ks : List Kept) → sorted earlier ks ≡ true → sorted earlier (placed earlier k ks) ≡ true
 kept_placed_sorted k ks h = placed_sorted earlier earlier_opposite earlier_further k ks h
 
+pub id_placed_sorted : (n : UsedId) (u : List UsedId) → sorted id_before u ≡ true → sorted id_before (placed id_before n u) ≡ true
+id_placed_sorted n u h = placed_sorted id_before id_opposite id_further n u h
+
 -- the derived order of used ids is this one
 pub id_order : (n y : UsedId) → ordering_then (nat_cmp y.stream n.stream) (nat_cmp y.id n.id) ≡ cond (id_before y n) Less (cond (id_before n y) Greater Equal)
 id_order n y = grind (arith, nat_tests)

@@ -31,6 +31,7 @@ impl<'a> Player<'a> {
     // A fresh player: playhead 0, every stream off, nothing kept and no id used; and what then holds of every list of calls on it, with a sink that was told nothing.
     pub fn new(tables: Tables<'a>, streams: StreamCount) -> Player<'a>
         ensures value { state result ≡ fresh streams.count (length tables.entry.kept.now) (length tables.entry.used.now) }
+        ensures slots { (result.kept.slots.now ≡ tables.entry.kept.now) × (result.used.slots.now ≡ tables.entry.used.now) }
         ensures stops_change_nothing { (h : Held) → h.told ≡ [] → StopsChangeNothing (world (state result) h) }
         ensures once_while_followed { (h : Held) → h.told ≡ [] → OnceWhileFollowed (world (state result) h) }
         ensures none_kept_active { (h : Held) → h.told ≡ [] → NoneKeptActive (world (state result) h) }

@@ -40,10 +40,11 @@ impl Rows<'_, Kept> {
     pub(crate) fn count_ids(&self) -> usize
         ensures { result ≡ ids (items self.now) }
     {
-        self.items()
-            .iter()
-            .filter(|event| event.id.is_some())
-            .count()
+        let mut count = 0;
+        for event in self.items() {
+            count += usize::from(event.id.is_some());
+        }
+        count
     }
 
     // How many of its events are active at a time.

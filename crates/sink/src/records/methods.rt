@@ -64,6 +64,9 @@ impl Record {
     fn at(bytes: &[u8]) -> Option<Record>
         ensures { result ≡ (if marked bytes.now then Some (record_at bytes.now) else None) }
     {
+        if bytes.len() < SIZE {
+            return None;
+        }
         let [b'D', b'L', flags, stream, rest @ ..] = bytes else {
             return None;
         };

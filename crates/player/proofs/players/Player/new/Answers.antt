@@ -18,6 +18,7 @@ returns c =
     let at : Time → State = λ t. record { streams = n; playhead = t; modes = replicate 32 Off; kept = []; used = []; places = k; id_places = m } in
     record {
       value = ap at (time_of _ 0 (omega arith) refl);
+      slots = (refl, refl);
       stops_change_nothing = λ h e. stops_nothing n k m h.free _ (new_world n k m _ h few (ap at (time_of _ 0 (omega arith) refl)) e);
       once_while_followed = λ h e. told_once n k m h.free _ (new_world n k m _ h few (ap at (time_of _ 0 (omega arith) refl)) e);
       none_kept_active = λ h e. none_active_lem n k m h.free _ (new_world n k m _ h few (ap at (time_of _ 0 (omega arith) refl)) e);
